@@ -5,7 +5,7 @@ use Rattle.tab_io.specs.Writing.{HasPut, HasPutPart, Puts}
 use Rattle.tab_io.specs.declared.writing.Output.{Ghosts}
 use Rattle.tab_io.proofs.Putting.{puts_more, part_longer}
 use Rattle.tab_wire.specs.Replies.{u32, i64, field, cell_fields, cell_frame}
-use Rattle.tab_wire.proofs.Lengths.{low_bytes}
+use Rattle.tab_codec.proofs.Lengths.{low_bytes}
 
 -- an opcode, five lengths and a timestamp take 29 bytes
 pub cell_length : (c : Cell) → (((((length c.key.row % 2 ^ 32 + length c.key.family % 2 ^ 32) % 2 ^ 32 + length c.key.qualifier % 2 ^ 32) % 2 ^ 32 + length c.key.label % 2 ^ 32) % 2 ^ 32 + length c.value % 2 ^ 32) % 2 ^ 32 + 29) % 2 ^ 32

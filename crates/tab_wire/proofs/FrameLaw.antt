@@ -1,13 +1,10 @@
 -- The parts that frames alone have are read exactly where they stand.
-use Rattle.std.proofs.Common.{◌≡◌, ℕ, ℤ, zero, suc, ◌+◌, ◌≤◌, ◌==◌, true, false, cond, List, [], ◌∷◌, ◌++◌, length, Option, Some, None, refl, sym, ap, subst, ◌∙◌, arith, inl, inr}
+use Rattle.std.proofs.Common.{◌≡◌, ℕ, zero, suc, ◌+◌, ◌≤◌, ◌==◌, true, false, cond, List, [], ◌∷◌, ◌++◌, length, Option, Some, None, refl, ap, subst, ◌∙◌, arith, inl, inr}
 use Rattle.std.specs.Prelude.{slice_get}
 use Rattle.std.specs.Option.{option_map}
 use Rattle.std.proofs.lemmas.List.{length-append}
-use Rattle.tab_key.specs.declared.key.Kind.{Kind}
-use Rattle.tab_key.specs.declared.key.Kind.TheVariants.{Delete, Put}
 use Rattle.tab_key.specs.declared.column.Column.{Column}
 use Rattle.tab_key.specs.declared.column.Column.TheVariants.{Family, Qualified}
-use Rattle.tab_mutation.specs.Mutations.{Update, Mutation}
 use Rattle.tab_policy.specs.Permissions.{system_place, table_place, all_system, all_table}
 use Rattle.tab_policy.specs.declared.permission.Permission.{Permission}
 use Rattle.tab_policy.specs.declared.permission.Permission.TheVariants.{OfSystem, OfTable}
@@ -17,14 +14,14 @@ use Rattle.tab_policy.specs.declared.permission.TablePermission.{TablePermission
 use Rattle.tab_policy.specs.declared.permission.TablePermission.TheVariants as table
 use Rattle.tab_history.specs.declared.event.Extent.{Extent}
 use Rattle.tab_history.specs.declared.event.Extent.TheVariants.{Partial, Full}
-use Rattle.tab_parts.specs.Parts.{IsByte, IsU32, IsI64, IsField, IsNameField, IsCounted, IsOptional, IsBounds, kind_byte, IsKind}
-use Rattle.tab_parts.specs.Reading.{Reader, and_then, mapped, picked, given, nothing_at, u8_at, u32_at, i64_at, field_at, name_at, tagged, bounds_at, kind_at}
-use Rattle.tab_parts.specs.Exactness.{Exact}
-use Rattle.tab_parts.proofs.Exact.{some_inj, exact_as, Follows, exact_then, Becomes, exact_mapped, Picks, exact_picked, exact_nothing, exact_given, exact_u8, exact_u32}
-use Rattle.tab_parts.proofs.PartLaw.{exact_field, exact_name, exact_i64, exact_counted, field_long, Tagged, exact_tagged, eq_is, Either, exact_either}
-use Rattle.tab_parts.proofs.TagLaw.{begins, Given, Nothing, exact_optional, optional_long, exact_bounds, bounds_long, exact_kind}
-use Rattle.tab_wire.specs.FrameParts.{IsColumn, IsPermission, extent_byte, IsExtent, IsValue, IsUpdate, IsMutation}
-use Rattle.tab_wire.specs.FrameReading.{column_by, column_at, system_permission, table_permission, permission_by, permission_at, extent_of, extent_at, value_at, timestamp_at, update_at, updates_at, columns_at, ranges_at, mutation_at}
+use Rattle.tab_codec.specs.Parts.{IsByte, IsU32, IsField, IsNameField, IsCounted, IsBounds}
+use Rattle.tab_codec.specs.Reading.{Reader, and_then, mapped, picked, given, nothing_at, u8_at, u32_at, field_at, name_at, tagged, bounds_at}
+use Rattle.tab_codec.specs.Exactness.{Exact}
+use Rattle.tab_codec.proofs.Exact.{some_inj, exact_as, Follows, exact_then, Becomes, exact_mapped, Picks, exact_picked, exact_nothing, exact_given, exact_u8, exact_u32}
+use Rattle.tab_codec.proofs.PartLaw.{exact_field, exact_name, exact_counted, field_long, Tagged, exact_tagged, eq_is, Either, exact_either}
+use Rattle.tab_codec.proofs.TagLaw.{begins, Given, Nothing, exact_bounds, bounds_long}
+use Rattle.tab_wire.specs.FrameParts.{IsColumn, IsPermission, extent_byte, IsExtent}
+use Rattle.tab_wire.specs.FrameReading.{column_by, column_at, system_permission, table_permission, permission_by, permission_at, extent_of, extent_at, columns_at, ranges_at}
 
 -- ---- columns
 abbrev ByColumn : List ℕ → ℕ → List ℕ → Column → Type 0
@@ -164,96 +161,6 @@ exact_extent = exact_as IsExtent (exact_picked extent_of u8_at IsByte exact_u8)
     (λ bytes e p. p.says ∙ ap (λ (n : ℕ). n ∷ []) (extent_picks p.first e p.picks))
     (λ bytes e is. record { first = extent_byte e; says = is; picks = extent_again e })
 
--- ---- updates
-pub exact_timestamp : Exact timestamp_at (IsOptional IsI64)
-unfolding timestamp_at
-exact_timestamp = exact_optional i64_at IsI64 exact_i64
-
-exact_value : (k : Kind) → Exact (value_at k) (IsValue k)
-exact_value Delete = exact_as (IsValue Delete) (exact_given []) (λ bytes v h. (h.0, sym h.1)) (λ bytes v h. (h.0, sym h.1))
-exact_value Put = exact_field
-
--- what stands behind the kind
-abbrev Behind : Kind → List ℕ → Update → Type 0
-Behind k = Follows IsField (λ family. Follows IsField (λ qualifier. Follows IsField (λ label. Follows (IsOptional IsI64) (λ timestamp. Becomes (IsValue k) (λ value. record { kind = k; family = family; qualifier = qualifier; label = label; timestamp = timestamp; value = value })))))
-
-abbrev made : Kind → List ℕ → List ℕ → List ℕ → Option ℤ → List ℕ → Update
-made k family qualifier label timestamp value = record { kind = k; family = family; qualifier = qualifier; label = label; timestamp = timestamp; value = value }
-
-abbrev behind_at : Kind → Reader Update
-behind_at k = and_then field_at (λ f. and_then field_at (λ q. and_then field_at (λ l. and_then timestamp_at (λ t. mapped (λ v. made k f q l t v) (value_at k)))))
-
-exact_behind : (k : Kind) → Exact (behind_at k) (Behind k)
-exact_behind k =
-    exact_then field_at IsField _ _ exact_field (λ f.
-    exact_then field_at IsField _ _ exact_field (λ q.
-    exact_then field_at IsField _ _ exact_field (λ l.
-    exact_then timestamp_at (IsOptional IsI64) _ _ exact_timestamp (λ t.
-    exact_mapped (λ v. made k f q l t v) (value_at k) (IsValue k) (exact_value k)))))
-
-update_to : (bytes : List ℕ) (u : Update) → Follows IsKind Behind bytes u → IsUpdate bytes u
-update_to bytes u a =
-    let b = a.next in
-    let c = b.next in
-    let d = c.next in
-    let e = d.next in
-    subst (λ (x : Update). IsUpdate bytes x) e.next.becomes (record {
-      f = b.front;
-      q = c.front;
-      l = d.front;
-      t = e.front;
-      v = e.back;
-      spelled = a.parts ∙ ap (λ (z : List ℕ). z ++ a.back) a.says ∙ ap (λ (z : List ℕ). kind_byte a.first ∷ z)
-          (b.parts ∙ ap (λ (z : List ℕ). b.front ++ z) (c.parts ∙ ap (λ (z : List ℕ). c.front ++ z) (d.parts ∙ ap (λ (z : List ℕ). d.front ++ z) e.parts)));
-      family = b.says;
-      qualifier = c.says;
-      label = d.says;
-      timestamp = e.says;
-      value = e.next.says;
-    })
-
-update_back : (bytes : List ℕ) (u : Update) → IsUpdate bytes u → Follows IsKind Behind bytes u
-update_back bytes u is = record {
-  first = u.kind;
-  front = kind_byte u.kind ∷ [];
-  back = is.f ++ (is.q ++ (is.l ++ (is.t ++ is.v)));
-  parts = is.spelled;
-  says = refl;
-  next = record {
-    first = u.family;
-    front = is.f;
-    back = is.q ++ (is.l ++ (is.t ++ is.v));
-    parts = refl;
-    says = is.family;
-    next = record {
-      first = u.qualifier;
-      front = is.q;
-      back = is.l ++ (is.t ++ is.v);
-      parts = refl;
-      says = is.qualifier;
-      next = record {
-        first = u.label;
-        front = is.l;
-        back = is.t ++ is.v;
-        parts = refl;
-        says = is.label;
-        next = record {
-          first = u.timestamp;
-          front = is.t;
-          back = is.v;
-          parts = refl;
-          says = is.timestamp;
-          next = record { first = u.value; says = is.value; becomes = refl };
-        };
-      };
-    };
-  };
-}
-
-pub exact_update : Exact update_at IsUpdate
-unfolding update_at
-exact_update = exact_as IsUpdate (exact_then kind_at IsKind behind_at Behind exact_kind exact_behind) update_to update_back
-
 -- ---- how long a part is at least
 pub column_long : (bytes : List ℕ) (c : Column) → IsColumn bytes c → 5 ≤ length bytes
 column_long bytes (Family family) is =
@@ -263,28 +170,7 @@ column_long bytes (Qualified family q) is =
     let len : length bytes ≡ length is.0 + suc (length is.1) = ap (λ (z : List ℕ). length z) is.2 ∙ length-append is.0 (1 ∷ is.1) in
     omega (arith, len, field_long is.0 family is.3)
 
-pub update_long : (bytes : List ℕ) (u : Update) → IsUpdate bytes u → 14 ≤ length bytes
-update_long bytes u is =
-    let rest : List ℕ = is.f ++ (is.q ++ (is.l ++ (is.t ++ is.v))) in
-    let len : length bytes ≡ suc (length (is.f ++ (is.q ++ (is.l ++ (is.t ++ is.v))))) = ap (λ (z : List ℕ). length z) is.spelled in
-    omega (
-      arith,
-      len,
-      length-append is.f (is.q ++ (is.l ++ (is.t ++ is.v))),
-      length-append is.q (is.l ++ (is.t ++ is.v)),
-      length-append is.l (is.t ++ is.v),
-      length-append is.t is.v,
-      field_long is.f u.family is.family,
-      field_long is.q u.qualifier is.qualifier,
-      field_long is.l u.label is.label,
-      optional_long IsI64 is.t u.timestamp is.timestamp,
-    )
-
 -- ---- counts of parts
-pub exact_updates : Exact updates_at (IsCounted IsU32 IsUpdate)
-unfolding updates_at
-exact_updates = exact_counted u32_at IsU32 14 update_at IsUpdate exact_u32 exact_update update_long
-
 pub exact_columns : Exact columns_at (IsCounted IsU32 IsColumn)
 unfolding columns_at
 exact_columns = exact_counted u32_at IsU32 5 column_at IsColumn exact_u32 exact_column column_long
@@ -292,11 +178,3 @@ exact_columns = exact_counted u32_at IsU32 5 column_at IsColumn exact_u32 exact_
 pub exact_ranges : Exact ranges_at (IsCounted IsU32 IsBounds)
 unfolding ranges_at
 exact_ranges = exact_counted u32_at IsU32 2 bounds_at IsBounds exact_u32 exact_bounds bounds_long
-
-pub exact_mutation : Exact mutation_at IsMutation
-unfolding mutation_at
-exact_mutation = exact_as IsMutation
-    (exact_then field_at IsField (λ row. mapped (λ us. record { row = row; updates = us }) updates_at) (λ row. Becomes (IsCounted IsU32 IsUpdate) (λ us. record { row = row; updates = us })) exact_field
-    (λ row. exact_mapped (λ us. record { row = row; updates = us }) updates_at (IsCounted IsU32 IsUpdate) exact_updates))
-    (λ bytes m f. (f.front, f.back, f.parts, subst (λ (x : Mutation). IsField f.front x.row) f.next.becomes f.says, subst (λ (x : Mutation). IsCounted IsU32 IsUpdate f.back x.updates) f.next.becomes f.next.says))
-    (λ bytes m is. record { first = m.row; front = is.0; back = is.1; parts = is.2; says = is.3; next = record { first = m.updates; says = is.4; becomes = refl } })

@@ -1,5 +1,5 @@
 -- Lengths as four bytes hold them.
-use Rattle.std.proofs.Common.{◌≡◌, ℕ, suc, ◌+◌, ◌*◌, ◌%◌, ◌/◌, ◌^◌, ◌<◌, List, [], ◌∷◌, ◌++◌, length, take, get_or, map, refl, sym, ap, ◌∙◌, arith, length-append, append-nil}
+use Rattle.std.proofs.Common.{◌≡◌, ℕ, suc, ◌+◌, ◌*◌, ◌%◌, ◌^◌, ◌<◌, List, [], ◌∷◌, ◌++◌, length, take, get_or, map, refl, sym, ap, ◌∙◌, arith, length-append, append-nil}
 use Rattle.std.specs.Prelude.{Vec}
 use Rattle.std.specs.List.{flat_map}
 use Rattle.std.specs.declared.alloc.Global.{Global}
@@ -9,16 +9,6 @@ use Rattle.tab_io.proofs.Each.{flat_map-append}
 use Rattle.tab_rules.specs.declared.violation.Violation.{Violation}
 use Rattle.tab_wire.specs.Replies.{u32, field, violation_bytes}
 use Rattle.tab_wire.specs.Values.{joined}
-
--- four bytes hold a number up to 2^32
-pub low_bytes : (n : ℕ) → u32 (n % 2 ^ 32) ≡ u32 n
-unfolding u32
-low_bytes n =
-    let a : n % 4294967296 / 16777216 % 256 ≡ n / 16777216 % 256 = omega arith in
-    let b : n % 4294967296 / 65536 % 256 ≡ n / 65536 % 256 = omega arith in
-    let c : n % 4294967296 / 256 % 256 ≡ n / 256 % 256 = omega arith in
-    let d : n % 4294967296 % 256 ≡ n % 256 = omega arith in
-    (λ i. a i ∷ b i ∷ c i ∷ d i ∷ [])
 
 -- a sum goes by what is held of its parts
 pub held_sum : (a b n m : ℕ) → a ≡ n % 2 ^ 32 → b ≡ m % 2 ^ 32 → (a + b) % 2 ^ 32 ≡ (n + m) % 2 ^ 32

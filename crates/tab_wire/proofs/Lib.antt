@@ -7,8 +7,6 @@ pub mod Answering
 pub mod NoSlots
 pub mod StreamLaw
 pub mod Seen
-pub mod SetLemmas
-pub mod BitSteps
 pub mod Loop
 pub mod Updating
 pub mod OpcodeLemmas
@@ -19,3 +17,5 @@ pub mod OwnSteps
 pub mod WholeTalks
 pub mod Turns
 pub mod Costing
+pub mod WriteLaw
+pub mod Framed

@@ -4,7 +4,7 @@ use Rattle.std.proofs.lemmas.List.{append-nil}
 use Rattle.tab_text.specs.declared.parse_error.ParseError.{ParseError}
 use Rattle.tab_text.specs.declared.parse_error.ParseError.TheVariants as unread
 use Rattle.tab_text.specs.Gives.{SaysNone}
-use Rattle.tab_parts.specs.Reading.{◌>>=◌, Reader, parts_at}
+use Rattle.tab_codec.specs.Reading.{◌>>=◌, Reader, parts_at}
 
 module _ {A : Type 0} where
   -- what was read before, and what is still read

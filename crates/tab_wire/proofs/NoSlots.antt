@@ -3,7 +3,7 @@ use Rattle.std.proofs.Common.{ℕ, Bool, true, false, cond, ◌==◌, List, [], 
 use Rattle.std.specs.Prelude.{Result, Ok, Err}
 use Rattle.tab_history.specs.declared.event.Act.TheVariants as act
 use Rattle.tab_history.specs.Chains.{NamesNoSlot}
-use Rattle.tab_parts.specs.Reading.{◌>>=◌, whole, u32_at, i64_at, field_at, name_at, list_at, bounds_at, time_at, versions_at, constraints_at}
+use Rattle.tab_codec.specs.Reading.{◌>>=◌, whole, u32_at, i64_at, field_at, name_at, list_at, bounds_at, time_at, versions_at, constraints_at}
 use Rattle.tab_wire.specs.declared.opcode.Opcode.{Opcode}
 use Rattle.tab_wire.specs.declared.opcode.Opcode.TheVariants as opcode
 use Rattle.tab_wire.specs.declared.request.Request.{Request}

@@ -6,9 +6,9 @@ use Rattle.std.proofs.lemmas.Bool.Decides.{not_from_Decides}
 use Rattle.std.proofs.lemmas.List.Elements.{All-get_or}
 use Rattle.std.proofs.lemmas.List.Sums.{AllPass-from_list_all}
 use Rattle.std.proofs.lemmas.Option.{slice_get_within, slice_get-get_or, get_or_from_slice_get}
-use Rattle.tab_parts.specs.Parts.{IsBytes}
-use Rattle.tab_parts.specs.Reading.{◌>>=◌, whole}
-use Rattle.tab_parts.proofs.Exact.{some_inj}
+use Rattle.tab_codec.specs.Parts.{IsBytes}
+use Rattle.tab_codec.specs.Reading.{◌>>=◌, whole}
+use Rattle.tab_codec.proofs.Exact.{some_inj}
 use Rattle.tab_wire.specs.declared.opcode.Opcode.{Opcode}
 use Rattle.tab_wire.specs.declared.opcode.Opcode.TheVariants as op_of
 use Rattle.tab_wire.specs.declared.request.Request.{Request}

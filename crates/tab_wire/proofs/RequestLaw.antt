@@ -2,19 +2,20 @@
 use Rattle.std.proofs.Common.{◌≡◌, ℕ, zero, suc, List, [], ◌∷◌, ◌++◌, Some, refl, sym, ap, subst, ◌∙◌}
 use Rattle.tab_label.specs.Sets.{set_of}
 use Rattle.tab_history.specs.declared.event.Act.TheVariants as act
-use Rattle.tab_parts.specs.Parts.{IsBytes, IsU32, IsI64, IsField, IsNameField, IsCounted, IsList, IsBounds, time_byte, IsTime, IsVersions, IsConstraints}
-use Rattle.tab_parts.specs.Reading.{◌>>=◌, Reader, and_then, mapped, given, whole, u32_at, i64_at, field_at, name_at, list_at, bounds_at, time_at, versions_at, constraints_at}
-use Rattle.tab_parts.specs.Exactness.{Exact}
-use Rattle.tab_parts.proofs.Exact.{Follows, exact_then, Becomes, exact_mapped, exact_given, exact_u32, whole_sound, whole_complete}
-use Rattle.tab_parts.proofs.PartLaw.{exact_i64, exact_field, exact_name, exact_list}
-use Rattle.tab_parts.proofs.TagLaw.{exact_bounds, exact_time, exact_versions, exact_constraints}
+use Rattle.tab_codec.specs.Parts.{IsBytes, IsU32, IsI64, IsField, IsNameField, IsCounted, IsList, IsBounds, time_byte, IsTime, IsVersions, IsConstraints}
+use Rattle.tab_codec.specs.Reading.{◌>>=◌, Reader, and_then, mapped, given, whole, u32_at, i64_at, field_at, name_at, list_at, bounds_at, time_at, versions_at, constraints_at}
+use Rattle.tab_codec.specs.Exactness.{Exact}
+use Rattle.tab_codec.proofs.Exact.{Follows, exact_then, Becomes, exact_mapped, exact_given, exact_u32, whole_sound, whole_complete}
+use Rattle.tab_codec.proofs.PartLaw.{exact_i64, exact_field, exact_name, exact_list}
+use Rattle.tab_codec.proofs.TagLaw.{exact_bounds, exact_time, exact_versions, exact_constraints}
 use Rattle.tab_wire.specs.declared.request.Request.{Request}
 use Rattle.tab_wire.specs.declared.request.Request.TheVariants as asks
 use Rattle.tab_wire.specs.FrameParts.{IsColumn, IsPermission, extent_byte, IsExtent, IsMutation}
 use Rattle.tab_wire.specs.FrameReading.{columns_at, permission_at, extent_at, mutation_at, ranges_at}
 use Rattle.tab_wire.specs.Requests.{create_table_at, set_auths_at, grant_at, revoke_at, set_constraints_at, write_at, open_at, next_at, many_at, close_at, compact_at, add_split_at, set_versions_at, set_horizon_at, opcode_of, fields_at, request_in}
 use Rattle.tab_wire.specs.Forms.{IsRequest, hello, create_table, drop_table, create_user, drop_user, set_auths, grant, revoke, set_constraints, write, opens, next, many, close, flush, compact, add_split, splits, status, rights, set_versions, set_horizon, rotate, RequestsAreForms}
-use Rattle.tab_wire.proofs.FrameLaw.{exact_columns, exact_permission, exact_extent, exact_mutation, exact_ranges}
+use Rattle.tab_wire.proofs.FrameLaw.{exact_columns, exact_permission, exact_extent, exact_ranges}
+use Rattle.tab_wire.proofs.WriteLaw.{coded_mutation as exact_mutation}
 
 -- ---- each opcode
 -- one part

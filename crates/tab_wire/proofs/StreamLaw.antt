@@ -6,9 +6,9 @@ use Rattle.std.proofs.lemmas.Bool.Decides.{nat_tests}
 use Rattle.std.proofs.lemmas.List.{take_at, drop_at, take-append-drop, length-append, length-take, length-drop}
 use Rattle.std.proofs.lemmas.Nat.{from_be_bytes-to_be_bytes_4}
 use Rattle.tab_wire.specs.declared.reason.Reason.TheVariants as reason
-use Rattle.tab_parts.specs.Parts.{IsBytes}
+use Rattle.tab_codec.specs.Parts.{IsBytes}
 use Rattle.tab_wire.specs.Stream.{Piece, Frame, Broken, max_frame, IsStream, ended, frame, empty, too_long, cut_length, cut_body, body_at, piece_at, pieces_within, pieces_of, StreamsSplitOnce}
-use Rattle.tab_parts.proofs.Exact.{bytes-drop, bytes-take, wide32}
+use Rattle.tab_codec.proofs.Exact.{bytes-drop, bytes-take, wide32}
 
 -- tests of numbers, as they compute
 is_false : (a b : ℕ) → b ≤ a → ltb a b ≡ false

@@ -18,12 +18,12 @@ use Rattle.tab_history.specs.declared.reply.Refusal.{Refusal}
 use Rattle.tab_history.specs.declared.reply.Refusal.TheVariants as refusal
 use Rattle.tab_history.specs.declared.split_fault.SplitFault.{SplitFault}
 use Rattle.tab_history.specs.declared.split_fault.SplitFault.TheVariants.{Present, Small, OneRow}
-use Rattle.tab_parts.specs.Parts.{IsBytes, IsByte, IsU32, IsU64, IsI64, IsField, IsNameField, AreParts, IsCounted}
-use Rattle.tab_parts.specs.Reading.{◌>>=◌, Reader, mapped, picked, given, nothing_at, whole, u8_at, u32_at, u64_at, i64_at, field_at, name_at, tagged}
-use Rattle.tab_parts.specs.Exactness.{Exact}
-use Rattle.tab_parts.proofs.Exact.{some_inj, exact_as, Follows, exact_then, Becomes, exact_mapped, exact_picked, exact_nothing, exact_given, exact_u8, exact_u32, exact_u64, bytes-rest, whole_sound, whole_complete}
-use Rattle.tab_parts.proofs.PartLaw.{exact_i64, exact_field, exact_name, exact_counted, Tagged, exact_tagged, eq_is, Either, exact_either}
-use Rattle.tab_parts.proofs.TagLaw.{begins, Given, Nothing}
+use Rattle.tab_codec.specs.Parts.{IsBytes, IsByte, IsU32, IsU64, IsI64, IsField, IsNameField, AreParts, IsCounted}
+use Rattle.tab_codec.specs.Reading.{◌>>=◌, Reader, mapped, picked, given, nothing_at, whole, u8_at, u32_at, u64_at, i64_at, field_at, name_at, tagged}
+use Rattle.tab_codec.specs.Exactness.{Exact}
+use Rattle.tab_codec.proofs.Exact.{some_inj, exact_as, Follows, exact_then, Becomes, exact_mapped, exact_picked, exact_nothing, exact_given, exact_u8, exact_u32, exact_u64, bytes-rest, whole_sound, whole_complete}
+use Rattle.tab_codec.proofs.PartLaw.{exact_i64, exact_field, exact_name, exact_counted, Tagged, exact_tagged, eq_is, Either, exact_either}
+use Rattle.tab_codec.proofs.TagLaw.{begins, Given, Nothing}
 use Rattle.tab_wire.specs.declared.reason.Reason.{Reason}
 use Rattle.tab_wire.specs.declared.reason.Reason.TheVariants as reason
 use Rattle.tab_wire.specs.declared.reply_frame.ReplyFrame.{ReplyFrame}

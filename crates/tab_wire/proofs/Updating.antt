@@ -2,8 +2,8 @@
 use Rattle.std.proofs.Common.{◌≡◌, ℕ, suc, ◌-◌, ◌+◌, ◌≤◌, ◌<◌, List, [], ◌∷◌, Option, Some, None, refl, sym, ap, subst, ◌∙◌, append_assoc, arith}
 use Rattle.std.proofs.lemmas.List.{append-nil}
 use Rattle.tab_mutation.specs.Mutations.{Mutation, Update, with_update}
-use Rattle.tab_parts.specs.Reading.{◌>>=◌, parts_at}
-use Rattle.tab_parts.proofs.Exact.{some_inj}
+use Rattle.tab_codec.specs.Reading.{◌>>=◌, parts_at}
+use Rattle.tab_codec.proofs.Exact.{some_inj}
 use Rattle.tab_text.specs.declared.parse_error.ParseError.{ParseError}
 use Rattle.tab_text.specs.declared.parse_error.ParseError.TheVariants as unread
 use Rattle.tab_text.specs.Gives.{SaysNone}

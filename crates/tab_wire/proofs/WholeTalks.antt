@@ -6,7 +6,7 @@ use Rattle.tab_wire.specs.declared.request.Request.{Request}
 use Rattle.tab_wire.specs.declared.request.Request.TheVariants as asks
 use Rattle.tab_wire.specs.Heard.{Heard}
 use Rattle.tab_wire.specs.Heard as heard
-use Rattle.tab_parts.proofs.Exact.{some_inj}
+use Rattle.tab_codec.proofs.Exact.{some_inj}
 use Rattle.tab_wire.specs.Asking.{Hears, IsBy}
 use Rattle.tab_wire.specs.Talking.{Talk, Exchange, IsQuiet, Does, Answers, entries_of}
 use Rattle.tab_wire.specs.Replies.{Sent}

@@ -4,20 +4,23 @@ use Rattle.tab_history.specs.Answers.{Told}
 use Rattle.tab_history.specs.declared.reply.Reply.TheVariants as reply
 use Rattle.tab_wire.specs.declared.request.Request.{Request}
 use Rattle.tab_wire.specs.declared.request.Request.TheVariants as asks
+use Rattle.tab_wire.specs.declared.asked.Asked.{Asked}
+use Rattle.tab_wire.specs.declared.asked.Asked.TheVariants as asked
 use Rattle.tab_wire.specs.Heard.{Heard}
 use Rattle.tab_wire.specs.Heard as heard
-use Rattle.tab_wire.specs.Requests.{request_of}
+use Rattle.tab_wire.specs.Requests.{request_in, request_of}
 use Rattle.tab_wire.specs.Stream.{Piece, Frame, Broken, piece_at}
 
 -- ---- what a connection knows
--- who said Hello, and how many sessions were opened
+-- who said Hello, how many sessions were opened, and the bytes of the frame that was read last
 pub record ConnState : Type 0 where
   pub user : Option (List ℕ)
   pub opened : ℕ
+  pub frame : List ℕ
 
 -- nobody did, and none was
 abbrev pub new_conn : ConnState
-new_conn = record { user = None; opened = 0 }
+new_conn = record { user = None; opened = 0; frame = [] }
 
 -- ---- what is asked
 -- What a piece of the stream asks, after Hello or before it. For any frame memory may lack.
@@ -58,9 +61,19 @@ Asks greeted [] what left = (what ≡ None) × (left ≡ Some [])
 Asks greeted (b ∷ bytes) None left = ⊥
 Asks greeted (b ∷ bytes) (Some what) left = let next = piece_at (b ∷ bytes) in IsRead greeted next.0 what × IsLeft what next.1 left
 
+-- nobody else asks, and no session was opened
+abbrev pub Stays : ConnState → ConnState → Type 0
+Stays before after = (after.user ≡ before.user) × (after.opened ≡ before.opened)
+
+-- a request is what the frame that was read last asks
+abbrev pub IsFramed : List ℕ → Option Asked → Type 0
+IsFramed frame None = Unit {0}
+IsFramed frame (Some (asked.Request request)) = request_in frame ≡ Some request
+IsFramed frame (Some what) = Unit {0}
+
 -- who asks, and as many sessions as before; where the stream has ended, all stays
 abbrev pub Knows : ConnState → Option Heard → ConnState → Type 0
-Knows before None after = after ≡ before
+Knows before None after = Stays before after
 Knows before (Some what) after = Hears before.user what after.user × (after.opened ≡ before.opened)
 
 -- ---- what is told

@@ -16,7 +16,7 @@ use Rattle.tab_history.specs.declared.event.Act.TheVariants as act
 use Rattle.tab_history.specs.Sessions.{Opening, opened, closed, session_in}
 use Rattle.tab_history.specs.Answers.{next_answer}
 use Rattle.tab_history.specs.declared.reply.Reply.TheVariants as reply
-use Rattle.tab_parts.specs.Reading.{u16_at, u32_at, u64_at, i64_at, field_at, name_at, list_at, bound_at, bounds_at, kind_at, time_at, versions_at, constraints_at}
+use Rattle.tab_codec.specs.Reading.{u16_at, u32_at, u64_at, i64_at, field_at, name_at, list_at, bound_at, bounds_at, kind_at, time_at, versions_at, constraints_at}
 use Rattle.tab_wire.specs.declared.request.Request.TheVariants as asks
 use Rattle.tab_wire.specs.declared.reason.Reason.TheVariants as reason
 use Rattle.tab_wire.specs.FrameReading.{column_at, permission_at, extent_at, timestamp_at, update_at, updates_at, columns_at, ranges_at, mutation_at}

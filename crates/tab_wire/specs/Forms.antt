@@ -9,7 +9,7 @@ use Rattle.tab_policy.specs.declared.permission.Permission.{Permission}
 use Rattle.tab_history.specs.declared.event.TimeMode.{TimeMode}
 use Rattle.tab_history.specs.declared.event.Extent.{Extent}
 use Rattle.tab_history.specs.declared.event.Act.TheVariants as act
-use Rattle.tab_parts.specs.Parts.{IsBytes, IsU32, IsI64, IsField, IsNameField, IsCounted, IsList, IsBounds, time_byte, IsVersions, IsConstraints}
+use Rattle.tab_codec.specs.Parts.{IsBytes, IsU32, IsI64, IsField, IsNameField, IsCounted, IsList, IsBounds, time_byte, IsVersions, IsConstraints}
 use Rattle.tab_wire.specs.declared.request.Request.{Request}
 use Rattle.tab_wire.specs.declared.request.Request.TheVariants as asks
 use Rattle.tab_wire.specs.declared.reason.Reason.{Reason}

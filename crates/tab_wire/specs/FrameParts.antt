@@ -1,5 +1,7 @@
 -- To be believed by whoever relies on it. How the parts that frames alone have lie in bytes, as relations: columns, permissions, updates, extents of compactions.
-use Rattle.std.specs.Prelude.{ℕ, ◌≡◌, List, [], ◌∷◌, ◌++◌}
+use Rattle.std.specs.Prelude.{ℕ, ℤ, ◌≡◌, ◌<◌, ◌^◌, List, [], ◌∷◌, ◌++◌, length, Option, FitsSigned}
+use Rattle.std.specs.Int.{w64}
+use Rattle.std.specs.List.{AllByRecursion}
 use Rattle.tab_key.specs.declared.key.Kind.{Kind}
 use Rattle.tab_key.specs.declared.key.Kind.TheVariants.{Delete, Put}
 use Rattle.tab_key.specs.declared.column.Column.{Column}
@@ -10,7 +12,8 @@ use Rattle.tab_policy.specs.declared.permission.Permission.{Permission}
 use Rattle.tab_policy.specs.declared.permission.Permission.TheVariants.{OfSystem, OfTable}
 use Rattle.tab_history.specs.declared.event.Extent.{Extent}
 use Rattle.tab_history.specs.declared.event.Extent.TheVariants.{Partial, Full}
-use Rattle.tab_parts.specs.Parts.{IsU32, IsI64, IsField, IsNameField, IsCounted, IsOptional, kind_byte}
+use Rattle.tab_codec.specs.Parts.{IsField, IsNameField, kind_byte}
+use Rattle.tab_codec.specs.Spelling.{Spells, i64, field, counted, optional, FitsOptional}
 
 -- a column: a family, and 0, or 1 and a qualifier
 abbrev pub IsColumn : List ℕ → Column → Type 0
@@ -30,25 +33,38 @@ extent_byte Full = 1
 abbrev pub IsExtent : List ℕ → Extent → Type 0
 IsExtent bytes extent = bytes ≡ extent_byte extent ∷ []
 
--- the value of a put; a delete marker has none, and no byte stands for it
-abbrev pub IsValue : Kind → List ℕ → List ℕ → Type 0
-IsValue Delete bytes value = (bytes ≡ []) × (value ≡ [])
-IsValue Put bytes value = IsField bytes value
+-- ---- updates and mutations, as they are written
+abbrev pub timestamp_bytes : Option ℤ → List ℕ
+timestamp_bytes = optional i64
 
--- an update: its kind, family, qualifier, label, perhaps a timestamp, and a put's value
-pub record IsUpdate (bytes : List ℕ) (u : Update) : Type 0 where
-  pub f : List ℕ
-  pub q : List ℕ
-  pub l : List ℕ
-  pub t : List ℕ
-  pub v : List ℕ
-  pub spelled : bytes ≡ kind_byte u.kind ∷ (f ++ (q ++ (l ++ (t ++ v))))
-  pub family : IsField f u.family
-  pub qualifier : IsField q u.qualifier
-  pub label : IsField l u.label
-  pub timestamp : IsOptional IsI64 t u.timestamp
-  pub value : IsValue u.kind v u.value
+-- the value of a put; no byte stands for that of a marker
+abbrev pub value_part : Kind → List ℕ → List ℕ
+value_part Delete value = []
+value_part Put value = field value
 
--- a mutation: its row, and a count of updates and that many of them
+abbrev pub update_bytes : Update → List ℕ
+update_bytes u = kind_byte u.kind ∷ (field u.family ++ (field u.qualifier ++ (field u.label ++ (timestamp_bytes u.timestamp ++ value_part u.kind u.value))))
+
+abbrev pub mutation_bytes : Mutation → List ℕ
+mutation_bytes m = field m.row ++ counted update_bytes m.updates
+
+-- ---- which of them have a spelling: fields of at most 2^32 - 1 bytes, timestamps of eight bytes, and markers without a value
+abbrev pub FitsValue : Kind → List ℕ → Type 0
+FitsValue Delete value = value ≡ []
+FitsValue Put value = length value < 2 ^ 32
+
+pub record FitsUpdate (u : Update) : Type 0 where
+  pub family : length u.family < 2 ^ 32
+  pub qualifier : length u.qualifier < 2 ^ 32
+  pub label : length u.label < 2 ^ 32
+  pub timestamp : FitsOptional (λ t. FitsSigned w64 t) u.timestamp
+  pub value : FitsValue u.kind u.value
+
+pub record FitsMutation (m : Mutation) : Type 0 where
+  pub row : length m.row < 2 ^ 32
+  pub few : length m.updates < 2 ^ 32
+  pub updates : AllByRecursion FitsUpdate m.updates
+
+-- a mutation, in its one spelling
 abbrev pub IsMutation : List ℕ → Mutation → Type 0
-IsMutation bytes m = (r : List ℕ) × (us : List ℕ) × (bytes ≡ r ++ us) × IsField r m.row × IsCounted IsU32 IsUpdate us m.updates
+IsMutation = Spells mutation_bytes FitsMutation

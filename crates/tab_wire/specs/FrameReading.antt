@@ -12,7 +12,7 @@ use Rattle.tab_policy.specs.declared.permission.Permission.{Permission}
 use Rattle.tab_policy.specs.declared.permission.Permission.TheVariants.{OfSystem, OfTable}
 use Rattle.tab_history.specs.declared.event.Extent.{Extent}
 use Rattle.tab_history.specs.declared.event.Extent.TheVariants.{Partial, Full}
-use Rattle.tab_parts.specs.Reading.{◌>>=◌, Reader, and_then, mapped, picked, given, nothing_at, u8_at, u32_at, i64_at, field_at, name_at, counted_at, tagged, optional_at, bounds_at, kind_at}
+use Rattle.tab_codec.specs.Reading.{◌>>=◌, Reader, and_then, mapped, picked, given, nothing_at, u8_at, u32_at, i64_at, field_at, name_at, counted_at, tagged, optional_at, bounds_at, kind_at}
 
 -- a column of this family
 abbrev pub column_by : List ℕ → ℕ → Reader Column

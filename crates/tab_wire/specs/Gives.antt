@@ -1,14 +1,10 @@
 -- For proofs. What is left of a frame, and what reading a whole one gives.
-use Rattle.std.specs.Prelude.{◌≡◌, ℕ, List, Result, Ok, Err}
-use Rattle.tab_wire.specs.declared.fields.Fields.{Fields}
+use Rattle.std.specs.Prelude.{◌≡◌, Result, Ok, Err}
+pub use Rattle.tab_codec.specs.Gives.{bytes_left}
 use Rattle.tab_wire.specs.declared.request.Request.{Request}
 use Rattle.tab_wire.specs.declared.reason.Reason.{Reason}
 use Rattle.tab_wire.specs.declared.read.Stop.{Stop}
 use Rattle.tab_wire.specs.declared.read.Stop.TheVariants as stop
-
--- the bytes of a frame that are left
-abbrev pub bytes_left : Fields → List ℕ
-bytes_left fields = fields.rest.now
 
 -- a reason is the one that is asked; want of memory says nothing
 abbrev pub SaysWhy : Stop → Result Request Reason → Type 0

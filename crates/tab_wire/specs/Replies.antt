@@ -1,7 +1,6 @@
 -- To be believed by whoever relies on it. The bytes of each reply.
-use Rattle.std.specs.Prelude.{ℕ, ℤ, ◌%◌, ◌^◌, ◌==◌, Bool, false, cond, List, [], ◌∷◌, ◌++◌, length}
+use Rattle.std.specs.Prelude.{ℕ, ◌%◌, ◌^◌, ◌==◌, Bool, false, cond, List, [], ◌∷◌, ◌++◌, length}
 use Rattle.std.specs.List.{flat_map}
-use Rattle.std.specs.Int.{w32, w64, to_be_bytes, cast_unsigned}
 use Rattle.tab_key.specs.Records.{Cell}
 use Rattle.tab_key.specs.declared.limited_part.LimitedPart.{LimitedPart}
 use Rattle.tab_key.specs.declared.limited_part.LimitedPart.TheVariants as part
@@ -18,25 +17,11 @@ use Rattle.tab_history.specs.declared.rights.Rights.{Rights}
 use Rattle.tab_history.specs.declared.split_fault.SplitFault.{SplitFault}
 use Rattle.tab_history.specs.declared.split_fault.SplitFault.TheVariants.{Present, Small, OneRow}
 use Rattle.tab_history.specs.Answers.{Told}
+unfoldable pub use Rattle.tab_codec.specs.Spelling.{u32, u64, i64}
+pub use Rattle.tab_codec.specs.Spelling.{field, list}
 use Rattle.tab_wire.specs.declared.reason.Reason.{Reason}
 use Rattle.tab_wire.specs.declared.reason.Reason.TheVariants as reason
-use Rattle.tab_parts.specs.Parts.{system_bits, table_bits}
-
--- ---- parts, as they are written
-unfoldable pub u32 : ℕ → List ℕ
-u32 n = to_be_bytes w32 n
-
-unfoldable pub u64 : ℕ → List ℕ
-u64 n = to_be_bytes w64 n
-
-unfoldable pub i64 : ℤ → List ℕ
-i64 z = to_be_bytes w64 (cast_unsigned w64 z)
-
-abbrev pub field : List ℕ → List ℕ
-field text = u32 (length text) ++ text
-
-abbrev pub list : List (List ℕ) → List ℕ
-list texts = u32 (length texts) ++ flat_map field texts
+use Rattle.tab_codec.specs.Parts.{system_bits, table_bits}
 
 -- a frame with these bytes
 abbrev pub frame : List ℕ → List ℕ

@@ -2,7 +2,7 @@
 use Rattle.std.specs.Prelude.{ℕ, zero, suc, Bool, true, false, List, [], ◌∷◌, slice_get, Option, Some, None, Result, Ok, Err, if◌then◌else◌}
 use Rattle.tab_label.specs.Sets.{set_of}
 use Rattle.tab_history.specs.declared.event.Act.TheVariants as act
-use Rattle.tab_parts.specs.Reading.{◌>>=◌, Reader, mapped, given, whole, u32_at, i64_at, field_at, name_at, list_at, bounds_at, time_at, versions_at, constraints_at}
+use Rattle.tab_codec.specs.Reading.{◌>>=◌, Reader, mapped, given, whole, u32_at, i64_at, field_at, name_at, list_at, bounds_at, time_at, versions_at, constraints_at}
 use Rattle.tab_wire.specs.declared.opcode.Opcode.{Opcode}
 use Rattle.tab_wire.specs.declared.opcode.Opcode.TheVariants as op
 use Rattle.tab_wire.specs.declared.request.Request.{Request}

@@ -1,21 +1,16 @@
 -- To be believed by whoever relies on it. The bytes of each request, as a client sends them: of all spellings of a request the one that it uses.
-use Rattle.std.specs.Prelude.{ℕ, ℤ, ◌≡◌, ◌≤◌, ◌<◌, Bool, true, false, List, [], ◌∷◌, ◌++◌, length, Option, Some, None, Result, Ok, Err}
-use Rattle.std.specs.List.{flat_map}
-use Rattle.tab_key.specs.declared.key.Kind.{Kind}
-use Rattle.tab_key.specs.declared.key.Kind.TheVariants.{Delete, Put}
-use Rattle.tab_key.specs.declared.range.Bound.{Bound}
-use Rattle.tab_key.specs.declared.range.Bound.TheVariants.{Unbounded, Inclusive, Exclusive}
-use Rattle.tab_key.specs.declared.range.Bounds.{Bounds}
+use Rattle.std.specs.Prelude.{ℕ, ◌≡◌, ◌≤◌, ◌<◌, Bool, true, false, List, [], ◌∷◌, ◌++◌, length, Result, Ok, Err}
 use Rattle.tab_key.specs.declared.column.Column.{Column}
 use Rattle.tab_key.specs.declared.column.Column.TheVariants.{Family, Qualified}
-use Rattle.tab_mutation.specs.Mutations.{Update, Mutation}
 use Rattle.tab_history.specs.declared.event.Scan.{Scan}
 use Rattle.tab_history.specs.declared.event.Act.{Act}
 use Rattle.tab_history.specs.declared.event.Act.TheVariants as act
 use Rattle.tab_io.specs.Writing.{HasPut, HasPutPart}
 use Rattle.tab_io.specs.declared.writing.Output.{Ghosts}
-use Rattle.tab_parts.specs.Parts.{kind_byte, time_byte, constraint_bits}
+use Rattle.tab_codec.specs.Parts.{time_byte, constraint_bits}
+pub use Rattle.tab_codec.specs.Spelling.{counted, bound_bytes, bounds_bytes}
 use Rattle.tab_wire.specs.FrameParts.{extent_byte}
+pub use Rattle.tab_wire.specs.FrameParts.{timestamp_bytes, value_part, update_bytes, mutation_bytes}
 use Rattle.tab_wire.specs.Replies.{u32, i64, field, list, frame, permission_bytes}
 use Rattle.tab_wire.specs.declared.request.Request.{Request}
 use Rattle.tab_wire.specs.declared.request.Request.TheVariants as asks
@@ -23,36 +18,9 @@ use Rattle.tab_wire.specs.declared.client.SendFault.{SendFault}
 use Rattle.tab_wire.specs.declared.client.SendFault.TheVariants as fault
 
 -- ---- parts
-abbrev pub bound_bytes : Bound → List ℕ
-bound_bytes Unbounded = 0 ∷ []
-bound_bytes (Inclusive row) = 1 ∷ field row
-bound_bytes (Exclusive row) = 2 ∷ field row
-
-abbrev pub bounds_bytes : Bounds → List ℕ
-bounds_bytes bounds = bound_bytes bounds.low ++ bound_bytes bounds.high
-
 abbrev pub column_bytes : Column → List ℕ
 column_bytes (Family family) = field family ++ 0 ∷ []
 column_bytes (Qualified family qualifier) = field family ++ 1 ∷ field qualifier
-
-abbrev pub timestamp_bytes : Option ℤ → List ℕ
-timestamp_bytes None = 0 ∷ []
-timestamp_bytes (Some timestamp) = 1 ∷ i64 timestamp
-
--- the value of a put; no byte stands for that of a marker
-abbrev pub value_part : Kind → List ℕ → List ℕ
-value_part Delete value = []
-value_part Put value = field value
-
-abbrev pub update_bytes : Update → List ℕ
-update_bytes u = kind_byte u.kind ∷ (field u.family ++ (field u.qualifier ++ (field u.label ++ (timestamp_bytes u.timestamp ++ value_part u.kind u.value))))
-
--- a count, and the bytes of each
-abbrev pub counted : {A : Type 0} → (A → List ℕ) → List A → List ℕ
-counted bytes xs = u32 (length xs) ++ flat_map bytes xs
-
-abbrev pub mutation_bytes : Mutation → List ℕ
-mutation_bytes m = field m.row ++ counted update_bytes m.updates
 
 abbrev pub scan_bytes : Scan → List ℕ
 scan_bytes scan = field scan.table ++ (bounds_bytes scan.bounds ++ (counted column_bytes scan.columns ++ list scan.authorizations))

@@ -3,7 +3,7 @@ use Rattle.std.specs.Prelude.{ℕ, zero, suc, ◌≡◌, ◌↔◌, ◌≤◌, �
 use Rattle.std.specs.Int.{w32, from_be_bytes, to_be_bytes}
 use Rattle.tab_wire.specs.declared.reason.Reason.{Reason}
 use Rattle.tab_wire.specs.declared.reason.Reason.TheVariants as reason
-use Rattle.tab_parts.specs.Parts.{IsBytes}
+use Rattle.tab_codec.specs.Parts.{IsBytes}
 
 -- what comes next on a stream: a frame with these bytes, or what is no frame and ends the connection
 pub data Piece : Type 0 where

@@ -7,7 +7,7 @@ use Rattle.tab_policy.specs.declared.permission.Permission.{Permission}
 use Rattle.tab_policy.specs.declared.permission.Permission.TheVariants.{OfSystem, OfTable}
 use Rattle.tab_history.specs.declared.reply.Refusal.{Refusal}
 use Rattle.tab_history.specs.declared.reply.Refusal.TheVariants as refusal
-use Rattle.tab_parts.specs.Parts.{IsBytes}
+use Rattle.tab_codec.specs.Parts.{IsBytes}
 use Rattle.tab_wire.specs.declared.reason.Reason.{Reason}
 use Rattle.tab_wire.specs.declared.reply_frame.ReplyFrame.TheVariants as told
 use Rattle.tab_wire.specs.Replies.{reason_number, refusal_bytes}

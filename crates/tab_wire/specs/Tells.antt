@@ -1,6 +1,6 @@
 -- For proofs. What the frames of replies tell, as a function.
-use Rattle.std.specs.Prelude.{ℕ, ◌==◌, nat_lt, List, [], ◌∷◌, slice_get, Option, Some, None, if◌then◌else◌}
-use Rattle.tab_key.specs.Records.{Record, Key}
+use Rattle.std.specs.Prelude.{ℕ, ◌==◌, nat_lt, List, Option, Some, None, if◌then◌else◌}
+use Rattle.tab_key.specs.Records.{Record}
 use Rattle.tab_key.specs.Encoding.{is_short}
 use Rattle.tab_key.specs.declared.key.Kind.TheVariants.{Put}
 use Rattle.tab_key.specs.declared.limited_part.LimitedPart.{LimitedPart}
@@ -16,8 +16,8 @@ use Rattle.tab_history.specs.declared.counts.Counts.{Counts}
 use Rattle.tab_history.specs.declared.rights.Rights.{Rights}
 use Rattle.tab_history.specs.declared.split_fault.SplitFault.{SplitFault}
 use Rattle.tab_history.specs.declared.split_fault.SplitFault.TheVariants.{Present, Small, OneRow}
-use Rattle.tab_parts.specs.Parts.{system_in, table_in}
-use Rattle.tab_parts.specs.Reading.{◌>>=◌, Reader, mapped, picked, nothing_at, given, whole, only_if, u8_at, u32_at, u64_at, i64_at, field_at, name_at, list_at, counted_at, tagged}
+use Rattle.tab_codec.specs.Parts.{system_in, table_in}
+use Rattle.tab_codec.specs.Reading.{◌>>=◌, Reader, mapped, picked, nothing_at, given, whole, only_if, u8_at, u32_at, u64_at, i64_at, field_at, name_at, list_at, counted_at, tagged}
 use Rattle.tab_wire.specs.declared.reason.Reason.{Reason}
 use Rattle.tab_wire.specs.declared.reason.Reason.TheVariants as reason
 use Rattle.tab_wire.specs.declared.reply_frame.ReplyFrame.{ReplyFrame}

@@ -1,7 +1,7 @@
 -- For proofs. A mutation to which the updates of a frame are added.
 use Rattle.std.specs.Prelude.{ℕ, List, ◌++◌, Option, Some}
 use Rattle.tab_mutation.specs.Mutations.{Mutation, Update, with_update}
-use Rattle.tab_parts.specs.Reading.{◌>>=◌}
+use Rattle.tab_codec.specs.Reading.{◌>>=◌}
 
 -- the mutation with more updates at its end
 abbrev pub with_updates : Mutation → List Update → Mutation

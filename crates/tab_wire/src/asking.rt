@@ -5,11 +5,11 @@ ghost use Rattle.std.specs.Prelude.{◌≡◌, ℤ, Option, [], ◌∷◌, ◌++
 ghost use Rattle.std.specs.List.{flat_map};
 ghost use Rattle.tab_io.specs.Writing.{Puts};
 ghost use Rattle.tab_key.specs.declared.key.Kind.{Kind as Kinds};
-ghost use Rattle.tab_parts.specs.Parts.{kind_byte};
+ghost use Rattle.tab_codec.specs.Parts.{kind_byte};
 ghost use Rattle.tab_wire.specs.Replies.{i64, field};
 ghost use Rattle.tab_wire.specs.Sending.{bound_bytes, bounds_bytes, column_bytes, timestamp_bytes, value_part, update_bytes, counted};
 
-use crate::numbers::{put_field, put_length, put_signed};
+use tab_codec::{kind_byte, put_field, put_length, put_signed};
 use tab_io::{Output, WriteFault, put_byte};
 use tab_key::{Bound, Bounds, Column, Kind};
 use tab_mutation::{Mutation, UpdateRef};
@@ -101,15 +101,6 @@ fn put_kind<W: Output>(output: &mut W, update: &UpdateRef<'_>) -> Result<(), Wri
     ensures { Puts W.Output output.old output.new (kind_byte update.now.kind ∷ []) result }
 {
     put_byte(output, kind_byte(update.kind()))
-}
-
-fn kind_byte(kind: Kind) -> u8
-    ensures { result ≡ kind_byte kind }
-{
-    match kind {
-        Kind::Delete => 0,
-        Kind::Put => 1,
-    }
 }
 
 // All of an update but its kind.

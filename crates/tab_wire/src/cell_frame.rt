@@ -5,8 +5,8 @@ ghost use Rattle.std.specs.Prelude.{◌≡◌, ◌%◌, ◌^◌, ◌++◌, ◌�
 ghost use Rattle.tab_io.specs.Writing.{Puts};
 ghost use Rattle.tab_wire.specs.Replies.{u32, i64, field, cell_frame, cell_fields};
 
-use crate::numbers::low;
 use std::marker::Model;
+use tab_codec::low;
 use tab_io::{Output, WriteFault};
 use tab_key::{CellRef, Piece};
 
@@ -120,7 +120,7 @@ fn put_head<W: Output>(output: &mut W, length: u32) -> Result<(), WriteFault>
 
 // The four bytes of the length, and the opcode. The length goes in whole: single bytes that are read as one number a moment later
 // hold the processor up.
-#[tactic(auto, unfolding(crate::specs::Replies::u32))]
+#[tactic(auto, unfolding(tab_codec::specs::Spelling::u32))]
 fn head_of(length: u32) -> [u8; 5]
     ensures { result ≡ u32 length ++ 130 ∷ [] }
 {
@@ -167,7 +167,7 @@ fn put_behind_label<W: Output>(output: &mut W, cell: &CellParts<'_>) -> Result<(
 }
 
 // The eight bytes of the timestamp, and the four of the value's length.
-#[tactic(auto, unfolding(crate::specs::Replies::u32, crate::specs::Replies::i64))]
+#[tactic(auto, unfolding(tab_codec::specs::Spelling::u32, tab_codec::specs::Spelling::i64))]
 fn before_value(timestamp: i64, length: u32) -> [u8; 12]
     ensures { result ≡ i64 timestamp ++ u32 length }
 {
@@ -185,7 +185,7 @@ fn put_piece<W: Output>(output: &mut W, piece: &Piece<'_>) -> Result<(), WriteFa
 }
 
 // A number as four bytes, the highest first.
-#[tactic(auto, unfolding(crate::specs::Replies::u32))]
+#[tactic(auto, unfolding(tab_codec::specs::Spelling::u32))]
 fn four_bytes(number: u32) -> [u8; 4]
     ensures { result ≡ u32 number }
 {

@@ -1,8 +1,8 @@
 //! One side of a connection: what is asked next, and what it is told.
-ghost use Rattle.std.specs.Prelude.{◌≡◌, ◌<◌, true, is_some, option_copied, IfOk, IfSome, OnErr};
+ghost use Rattle.std.specs.Prelude.{◌≡◌, ◌<◌, true, is_some, Some, option_copied, IfOk, IfSome, OnErr};
 ghost use Rattle.tab_io.specs.Streams.{FailsByFault};
 ghost use Rattle.tab_io.specs.Writing.{Puts};
-ghost use Rattle.tab_wire.specs.Asking.{new_conn, IsRead, IsBy, MayAsk, Hears, Asks, Knows, opens, opened_by};
+ghost use Rattle.tab_wire.specs.Asking.{new_conn, IsRead, IsBy, IsFramed, Stays, MayAsk, Hears, Asks, Knows, opens, opened_by};
 ghost use Rattle.tab_wire.specs.Heard.{heard_by, next_by};
 ghost use Rattle.tab_wire.specs.Replies.{sent_bytes, sent_of};
 ghost use Rattle.tab_wire.specs.Stream.{Frame};
@@ -30,10 +30,11 @@ pub struct Conn {
 
 impl Model for Conn {
     ghost use Rattle.tab_wire.specs.Asking.{ConnState};
+    ghost use Rattle.tab_wire.specs.Taking.{frame_in};
 
     ghost Value = { ConnState };
 
-    ghost view = { λ c. record { user = c.user; opened = c.opened } };
+    ghost view = { λ c. record { user = c.user; opened = c.opened; frame = frame_in c.frame } };
 }
 
 impl Conn {
@@ -55,6 +56,13 @@ impl Conn {
         self.user.as_ref()
     }
 
+    /// The bytes of the frame that was read last.
+    pub fn frame(&self) -> &[u8]
+        ensures { result.now ≡ self.now.frame }
+    {
+        self.frame.bytes()
+    }
+
     /// Reads the next frame. `None`: the input has ended between two frames.
     ///
     /// A request is one of the connection's user, who is known by then: Hello has named him, or names him.
@@ -68,7 +76,8 @@ impl Conn {
     ) -> Result<Option<Asked>, ReadFault>
         ensures ahead { IfOk result (λ asked. IfSome (R.remaining input.old) (λ ahead. Asks (is_some self.old.user) ahead (next_by self.new.user asked) (R.remaining input.new))) }
         ensures ok { IfOk result (λ asked. Knows self.old (next_by self.new.user asked) self.new) }
-        ensures err { OnErr result (self.new ≡ self.old) }
+        ensures err { OnErr result (Stays self.old self.new) }
+        ensures frame { IfOk result (λ asked. IsFramed self.new.frame asked) }
         ensures left { OnErr result (TakesPart (R.remaining input.old) (R.remaining input.new)) }
         ensures faults { FailsByFault result (R.faults input.old) (R.faults input.new) (R.budget input.new) }
         ensures costs { IfOk result (λ _. Costs R.Input input.old input.new) }
@@ -94,6 +103,7 @@ impl Conn {
         ensures bytes { Puts W.Output output.old output.new (sent_bytes (sent_of self.old.opened count reply.now)) result }
         ensures user { self.new.user ≡ self.old.user }
         ensures opened { self.new.opened ≡ opened_by self.old.opened reply.now }
+        ensures frame { self.new.frame ≡ self.old.frame }
     {
         let number = self.opened;
         if let Reply::Opened(_) = reply {
@@ -107,6 +117,7 @@ impl Conn {
 fn asked(alloc: Global, user: &mut Option<Name>, frame: &[u8]) -> Asked
     ensures read { IsRead (is_some user.old) (Frame frame.now) (heard_by user.new result) }
     ensures by { Hears user.old (heard_by user.new result) user.new }
+    ensures framed { IsFramed frame.now (Some result) }
 {
     match read_request(alloc, user.is_some(), frame) {
         Ok(request) => {

@@ -1,16 +1,16 @@
 //! A count, and that many parts of a frame.
 ghost use Rattle.std.specs.Prelude.{◌≡◌, map};
 ghost use Rattle.tab_label.specs.Sets.{byte_lists, set_of};
-ghost use Rattle.tab_parts.specs.Reading.{u32_at, parts_at, counted_at, list_at};
+ghost use Rattle.tab_codec.specs.Reading.{u32_at, parts_at, counted_at, list_at};
 ghost use Rattle.tab_text.specs.Gives.{Gives};
 ghost use Rattle.tab_wire.specs.Gives.{bytes_left};
 ghost use Rattle.tab_wire.specs.FrameReading.{columns_at, ranges_at};
 ghost use Rattle.tab_wire.specs.Tells.{violations_at};
 
-use crate::fields::{Fields, a_field, a_number};
-use crate::parts::{a_column, a_range};
+use crate::parts::a_column;
 use crate::reply_frame::a_violation;
 use std::alloc::Global;
+use tab_codec::{Fields, a_field, a_number, a_range};
 use tab_key::{Bounds, Column, Items};
 use tab_rules::Violation;
 use tab_text::ParseError;
@@ -18,7 +18,7 @@ use tab_text::ParseError;
 /// What can stand behind a count.
 pub trait Countable: Drop {
     ghost use Rattle.std.specs.Prelude.{ℕ, List, Option};
-    ghost use Rattle.tab_parts.specs.Reading.{Reader};
+    ghost use Rattle.tab_codec.specs.Reading.{Reader};
 
     // What contracts see of a part.
     ghost Meaning: { Type 0 };
@@ -35,7 +35,7 @@ pub trait Countable: Drop {
 
 impl Countable for Vec<u8> {
     ghost use Rattle.std.specs.Prelude.{ℕ, List};
-    ghost use Rattle.tab_parts.specs.Reading.{field_at};
+    ghost use Rattle.tab_codec.specs.Reading.{field_at};
 
     ghost Meaning = { List ℕ };
 
@@ -66,7 +66,7 @@ impl Countable for Column {
 
 impl Countable for Bounds {
     ghost use Rattle.tab_key.specs.declared.range.Bounds.{Bounds as Ends};
-    ghost use Rattle.tab_parts.specs.Reading.{bounds_at};
+    ghost use Rattle.tab_codec.specs.Reading.{bounds_at};
 
     ghost Meaning = { Ends };
 
@@ -114,14 +114,14 @@ fn counted<T: Countable>(
     ensures { Gives (λ x. (map T.meaning_of x.items, bytes_left fields.new)) result (counted_at u32_at least T.reads (bytes_left fields.old)) }
 {
     let count = a_number(fields)?;
-    if fields.rest.len() < count as usize * least as usize {
+    if fields.left() < count as usize * least as usize {
         return Err(ParseError::Malformed);
     }
     parts(alloc, count, fields)
 }
 
 /// Takes a list of byte strings.
-#[tactic(auto, unfolding(tab_parts::specs::Reading::list_at))]
+#[tactic(auto, unfolding(tab_codec::specs::Reading::list_at))]
 pub fn a_list(alloc: Global, fields: &mut Fields) -> Result<Vec<Vec<u8>>, ParseError>
     ensures { Gives (λ x. (byte_lists x.items, bytes_left fields.new)) result (list_at (bytes_left fields.old)) }
 {

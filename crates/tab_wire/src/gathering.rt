@@ -1,7 +1,7 @@
 //! Bytes that are gathered in memory before they are sent or kept.
-ghost use Rattle.std.specs.Prelude.{◌≡◌, [], false, Some, take};
+ghost use Rattle.std.specs.Prelude.{◌≡◌, [], false, Some, take, IfOk};
 
-use std::alloc::Global;
+use std::alloc::{AllocError, Global};
 use tab_io::{Output, WriteFault};
 
 /// An output in memory that is used again. It fails where memory lacks, and from then on until it is cleared.
@@ -22,6 +22,16 @@ impl Gathering {
         }
     }
 
+    /// Without bytes, with memory for so many.
+    pub fn with_room(alloc: Global, room: usize) -> Result<Gathering, AllocError>
+        ensures { IfOk result (λ gathered. gathered.bytes.items ≡ []) }
+    {
+        Ok(Gathering {
+            bytes: Vec::with_capacity(alloc, room)?,
+            lost: false,
+        })
+    }
+
     /// Forgets the bytes, and keeps their memory.
     pub fn clear(&mut self)
         ensures bytes { self.new.bytes.items ≡ [] }
@@ -38,6 +48,14 @@ impl Gathering {
     {
         self.bytes.truncate(count);
         self.lost = false;
+    }
+
+    /// The bytes, in memory of their own.
+    pub fn into_bytes(self) -> Vec<u8>
+        ensures { result.items ≡ self.bytes.items }
+    {
+        let Gathering { bytes, lost: _ } = self;
+        bytes
     }
 
     /// The bytes.

@@ -1,4 +1,7 @@
 //! What holds of frames: laws, each the contract of a function that does nothing.
+ghost use Rattle.tab_codec.specs.Codes.{Codes};
+ghost use Rattle.tab_wire.specs.FrameParts.{FitsMutation, mutation_bytes};
+ghost use Rattle.tab_wire.specs.FrameReading.{mutation_at};
 ghost use Rattle.tab_wire.specs.Forms.{RequestsAreForms, RequestsInTurn, ReasonsAreFirst};
 ghost use Rattle.tab_wire.specs.Stream.{StreamsSplitOnce};
 ghost use Rattle.tab_wire.specs.TalkLaws.{TalksStayLegal};
@@ -8,6 +11,12 @@ ghost use Rattle.tab_wire.specs.TellLaws.{RefusalsAreTold};
 #[tactic(auto, using(crate::proofs::RequestLaw::requests_are_forms))]
 pub fn requests_are_forms()
     ensures { RequestsAreForms }
+{}
+
+/// A mutation has one spelling, no two have the same one, and it is read of that, whole, and of nothing else.
+#[tactic(auto, using(crate::proofs::WriteLaw::mutations_are_coded))]
+pub fn mutations_are_coded()
+    ensures { Codes mutation_at mutation_bytes FitsMutation }
 {}
 
 /// What a frame asks is one of the forms, asked in its turn: Hello first, and only then.

@@ -44,40 +44,40 @@
 //! | File | What |
 //! |---|---|
 //! | `request`, `reason`, `opcode` | what a frame asks, why one asks nothing, and its first byte |
-//! | `fields`, `parts`, `counted`, `updates` | one field after another, and why one wasn't read |
+//! | `parts`, `counted`, `updates` | the parts that frames alone have |
 //! | `read` | what a frame asks: `read_request` |
-//! | `numbers`, `value`, `bits` | what a frame is put of |
+//! | `value` | what a frame is put of |
 //! | `refusal`, `reply`, `cell_frame` | the frames of refusals and replies, and of a cell: `write_reply` |
 //! | `head`, `frame` | one frame after another, taken of a stream into memory that is used again |
 //! | `conn`, `asked` | the server's side of a connection: what is asked next, and what it is told |
 //! | `asking`, `sending`, `gathering` | the bytes of requests, of parts that are lent, gathered as a client sends them |
 //! | `reply_frame`, `answer` | what one frame of a reply tells, and what all frames of one do |
 //! | `client` | the client's side of a connection: `Client` |
-//! | `laws` | reading is exactly the forms, the first reason is told, refusals are read as they are written, a stream is split in one way, a connection makes a legal history |
+//! | `laws` | reading is exactly the forms, and what else the lemmas of `proofs` show of frames, streams and whole connections |
 //!
-//! In `specs`, `Forms` says what each frame asks, with one form for each opcode, and nothing of how it is read; `Requests` reads it, of
-//! the parts in `FrameParts` and `FrameReading` and those of crate `tab_parts`. `Stream` says how bytes are split into frames, `Replies` has
-//! the bytes of each reply, `Tells` reads what one of its frames tells, with the law on that in `TellLaws`, `Values` what they are put of, `Gives` and `Updating` say what the code's results stand for, and `Examples`
-//! computes examples. `Taking` says what is taken of a stream, `Heard` what is asked and by whom, `Asking` what a connection knows and what comes next on it, and `Talking`
-//! what a whole connection comes to, frame by frame: the steps that its bytes spell, the moments that its events take, and what is replied;
-//! `TalkLaws` has the law on that. `Sending` has the bytes of each request, of which a client makes its frames. In `proofs`, `FrameLaw` and `RequestLaw` show that reading is exactly the forms, `ReasonLaw` which reason is
-//! first, `TellLaw` that a refusal is read as it is written, `NoSlots` that no frame names the slot of a job, `StreamLaw` that a stream is split in one way, `WholeTalks` that a connection makes a legal history; the others have lemmas for the code.
+//! In `specs`, `Forms` says what each frame asks, with one form for each opcode, and nothing of how it is read; `Requests` reads it, of the
+//! parts in `FrameParts` and `FrameReading` and those of crate `tab_codec`. `Stream` says how bytes are split into frames, `Replies` has
+//! the bytes of each reply, `Tells` reads what one of its frames tells, with the law on that in `TellLaws`, `Values` what they are put of,
+//! `Gives` and `Updating` say what the code's results stand for, and `Examples` computes examples. `Taking` says what is taken of a stream,
+//! `Heard` what is asked and by whom, `Asking` what a connection knows and what comes next on it, and `Talking` what a whole connection
+//! comes to, frame by frame: the steps that its bytes spell, the moments that its events take, and what is replied; `TalkLaws` has the law
+//! on that. `Sending` has the bytes of each request, of which a client makes its frames. In `proofs`, `FrameLaw`, `WriteLaw` and
+//! `RequestLaw` show that reading is exactly the forms, `ReasonLaw` which reason is first, `TellLaw` that a refusal is read as it is
+//! written, `NoSlots` that no frame names the slot of a job, `StreamLaw` that a stream is split in one way, `WholeTalks` that a connection
+//! makes a legal history; the others have lemmas for the code.
 #![tactic(auto)]
 
 mod answer;
 mod asked;
 mod asking;
-mod bits;
 mod cell_frame;
 mod client;
 mod conn;
 mod counted;
-mod fields;
 mod frame;
 mod gathering;
 mod head;
 mod laws;
-mod numbers;
 mod opcode;
 mod parts;
 mod read;
@@ -92,13 +92,12 @@ mod value;
 
 pub use answer::Answer;
 pub use asked::Asked;
-pub use bits::constraint_bits;
 pub use client::{Client, ReceiveFault, SendFault};
 pub use conn::Conn;
 pub use gathering::Gathering;
 pub use laws::{
-    reasons_are_first, refusals_are_told, requests_are_forms, requests_in_turn, streams_split_once,
-    talks_stay_legal,
+    mutations_are_coded, reasons_are_first, refusals_are_told, requests_are_forms,
+    requests_in_turn, streams_split_once, talks_stay_legal,
 };
 pub use opcode::Opcode;
 pub use read::{Stop, read_request};
@@ -106,8 +105,5 @@ pub use reason::Reason;
 pub use refusal::write_bad_frame;
 pub use reply::write_reply;
 pub use request::Request;
-pub use sending::{
-    put_auths, put_create, put_horizon, put_marked, put_named, put_row, put_system, put_table,
-    put_versions, put_write,
-};
+pub use sending::put_act;
 pub use value::{Value, put_values};

@@ -1,16 +1,19 @@
 //! What a frame asks.
 ghost use Rattle.std.specs.Prelude.{Some};
-ghost use Rattle.tab_parts.specs.Reading.{whole};
+ghost use Rattle.tab_codec.specs.Reading.{whole};
 ghost use Rattle.tab_text.specs.Gives.{Gives};
 ghost use Rattle.tab_wire.specs.Gives.{Asks, bytes_left};
 ghost use Rattle.tab_wire.specs.Requests.{create_table_at, set_auths_at, grant_at, revoke_at, set_constraints_at, write_at, open_at, next_at, many_at, close_at, compact_at, add_split_at, set_versions_at, set_horizon_at, fields_at, or_field, request_of};
 
 use crate::counted::{a_list, some_columns, some_ranges};
-use crate::fields::{Fields, a_byte_string, a_name, a_number, a_signed_number};
-use crate::parts::{a_constraint_set, a_permission, a_range, a_time, a_version_count, an_extent};
+use crate::parts::{a_permission, an_extent};
 use crate::updates::a_mutation;
 use crate::{Opcode, Reason, Request};
 use std::alloc::Global;
+use tab_codec::{
+    Fields, a_byte_string, a_constraint_set, a_name, a_number, a_range, a_signed_number, a_time,
+    a_version_count,
+};
 use tab_history::{Act, Scan};
 use tab_label::AuthSet;
 use tab_text::ParseError;
@@ -194,7 +197,7 @@ fn request(alloc: Global, opcode: Opcode, fields: &mut Fields) -> Result<Request
 fn with_nothing_left(request: Request, fields: &Fields) -> Result<Request, Stop>
     ensures { Asks result (or_field (whole (Some (request, bytes_left fields.now)))) }
 {
-    if fields.rest.is_empty() {
+    if fields.left() == 0 {
         Ok(request)
     } else {
         Err(Stop::Bad(Reason::Field))

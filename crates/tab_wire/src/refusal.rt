@@ -9,8 +9,8 @@ ghost use Rattle.tab_wire.specs.Replies as sent;
 ghost use Rattle.tab_wire.specs.Replies.{u32, u64, i64, field, frame, part_number, reason_number, split_number, permission_bytes, violation_bytes, refusal_bytes, sent_bytes};
 
 use crate::Reason;
-use crate::numbers::low;
 use crate::value::{Value, put_frame};
+use tab_codec::low;
 use tab_history::{Refusal, SplitFault};
 use tab_io::{Output, WriteFault};
 use tab_key::LimitedPart;

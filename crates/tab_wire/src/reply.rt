@@ -7,10 +7,10 @@ ghost use Rattle.tab_io.specs.Writing.{Puts};
 ghost use Rattle.tab_wire.specs.Replies as sent;
 ghost use Rattle.tab_wire.specs.Replies.{u32, frame, cell_frame, end_frame, range_frames, row_frame, sent_bytes, sent_of};
 
-use crate::bits::{system_bits, table_bits};
 use crate::cell_frame::put_cell;
 use crate::refusal::put_refusal;
 use crate::value::{Value, put_frame};
+use tab_codec::{system_bits, table_bits};
 use tab_history::{Counts, Reply, Rights};
 use tab_io::{Output, WriteFault};
 use tab_key::{ByteString, CellRef, Cells};

@@ -1,17 +1,17 @@
 //! What the frames of replies tell, read.
-ghost use Rattle.tab_parts.specs.Reading.{u8_at, picked, tagged};
+ghost use Rattle.tab_codec.specs.Reading.{u8_at, picked, tagged};
 ghost use Rattle.tab_text.specs.Gives.{Gives};
 ghost use Rattle.tab_wire.specs.Gives.{bytes_left};
 ghost use Rattle.tab_wire.specs.Tells.{part_of, reason_of, split_fault_of, constraint_of, end_of, table_of, violation_at, malformed_at, horizon_by, refusal_by, refused_at, cell_at, counts_at, rights_at, told_by, told_in};
 
-use crate::bits::{system_in, table_in};
 use crate::counted::{a_list, some_violations};
-use crate::fields::{
-    Fields, a_byte, a_byte_string, a_field, a_long_number, a_name, a_number, a_signed_number,
-};
 use crate::parts::a_permission;
 use crate::reason::Reason;
 use std::alloc::Global;
+use tab_codec::{
+    Fields, a_byte, a_byte_string, a_field, a_long_number, a_name, a_number, a_signed_number,
+    system_in, table_in,
+};
 use tab_history::{Counts, Refusal, Rights, SplitFault};
 use tab_key::{ByteString, Key, Kind, LimitedPart, Record};
 use tab_label::AuthSet;
@@ -51,7 +51,7 @@ pub fn read_told(alloc: Global, frame: &[u8]) -> Result<ReplyFrame, ParseError>
 {
     let mut fields = Fields::of(frame);
     let told = opcode_and_fields(alloc, &mut fields)?;
-    if !fields.rest.is_empty() {
+    if fields.left() > 0 {
         return Err(ParseError::Malformed);
     }
     Ok(told)

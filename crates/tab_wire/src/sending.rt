@@ -4,7 +4,7 @@
 ghost use Rattle.std.specs.Prelude.{◌≡◌, [], ◌∷◌, ◌++◌};
 ghost use Rattle.std.specs.List.{flat_map};
 ghost use Rattle.tab_io.specs.Writing.{Puts};
-ghost use Rattle.tab_parts.specs.Parts.{constraint_bits, time_byte};
+ghost use Rattle.tab_codec.specs.Parts.{constraint_bits, time_byte};
 ghost use Rattle.tab_policy.specs.Permissions.{system_place, table_place};
 ghost use Rattle.tab_wire.specs.FrameParts.{extent_byte};
 ghost use Rattle.tab_wire.specs.Replies.{u32, i64, field, list, permission_bytes};
@@ -12,10 +12,9 @@ ghost use Rattle.tab_wire.specs.Sending.{act_bytes, request_bytes, scan_bytes, b
 
 use crate::Request;
 use crate::asking::{put_bounds, put_column, put_updates};
-use crate::bits::constraint_bits;
-use crate::numbers::{put_field, put_length, put_number};
 use crate::refusal::{system_place, table_place};
 use crate::value::{Value, put_terms, put_values};
+use tab_codec::{constraint_bits, put_field, put_length, put_number, time_byte};
 use tab_history::{Act, Extent, Scan, TimeMode};
 use tab_io::{Output, WriteFault, put_byte};
 use tab_key::{Bounds, Column};
@@ -38,7 +37,8 @@ pub fn put_request<W: Output>(output: &mut W, request: &Request) -> Result<(), W
     }
 }
 
-fn put_act<W: Output>(output: &mut W, act: &Act) -> Result<(), WriteFault>
+/// Puts the body of the frame that asks the act. Nothing is put of a split by size, of a compaction in three parts, of a save or of a load.
+pub fn put_act<W: Output>(output: &mut W, act: &Act) -> Result<(), WriteFault>
     ensures { Puts W.Output output.old output.new (act_bytes act.now) result }
 {
     match act {
@@ -73,16 +73,16 @@ fn put_act<W: Output>(output: &mut W, act: &Act) -> Result<(), WriteFault>
     }
 }
 
-/// Puts an opcode and a name.
-pub fn put_named<W: Output>(output: &mut W, opcode: u8, name: &[u8]) -> Result<(), WriteFault>
+// Puts an opcode and a name.
+fn put_named<W: Output>(output: &mut W, opcode: u8, name: &[u8]) -> Result<(), WriteFault>
     ensures { Puts W.Output output.old output.new (opcode ∷ field name.now) result }
 {
     put_byte(output, opcode)?;
     put_field(output, name)
 }
 
-/// Puts an opcode, a name and a byte.
-pub fn put_marked<W: Output>(
+// Puts an opcode, a name and a byte.
+fn put_marked<W: Output>(
     output: &mut W,
     opcode: u8,
     name: &[u8],
@@ -118,12 +118,8 @@ fn put_two<W: Output>(output: &mut W, opcode: u8, number: u32, other: u32) -> Re
     )
 }
 
-/// Puts what asks that a tablet of the table be split at a row.
-pub fn put_row<'a, W: Output>(
-    output: &mut W,
-    table: &'a [u8],
-    row: &'a [u8],
-) -> Result<(), WriteFault>
+// Puts what asks that a tablet of the table be split at a row.
+fn put_row<'a, W: Output>(output: &mut W, table: &'a [u8], row: &'a [u8]) -> Result<(), WriteFault>
     ensures { Puts W.Output output.old output.new (17 ∷ (field table.now ++ field row.now)) result }
 {
     put_values(
@@ -132,8 +128,8 @@ pub fn put_row<'a, W: Output>(
     )
 }
 
-/// Puts what asks for a new table.
-pub fn put_create<W: Output>(
+// Puts what asks for a new table.
+fn put_create<W: Output>(
     output: &mut W,
     table: &[u8],
     time: TimeMode,
@@ -152,12 +148,8 @@ pub fn put_create<W: Output>(
     )
 }
 
-/// Puts what asks that the table show so many versions.
-pub fn put_versions<W: Output>(
-    output: &mut W,
-    table: &[u8],
-    versions: u32,
-) -> Result<(), WriteFault>
+// Puts what asks that the table show so many versions.
+fn put_versions<W: Output>(output: &mut W, table: &[u8], versions: u32) -> Result<(), WriteFault>
     ensures { Puts W.Output output.old output.new (21 ∷ (field table.now ++ u32 versions)) result }
 {
     put_values(
@@ -170,8 +162,8 @@ pub fn put_versions<W: Output>(
     )
 }
 
-/// Puts what asks for a horizon of the table.
-pub fn put_horizon<W: Output>(output: &mut W, table: &[u8], horizon: i64) -> Result<(), WriteFault>
+// Puts what asks for a horizon of the table.
+fn put_horizon<W: Output>(output: &mut W, table: &[u8], horizon: i64) -> Result<(), WriteFault>
     ensures { Puts W.Output output.old output.new (22 ∷ (field table.now ++ i64 horizon)) result }
 {
     put_values(
@@ -184,8 +176,8 @@ pub fn put_horizon<W: Output>(output: &mut W, table: &[u8], horizon: i64) -> Res
     )
 }
 
-/// Puts what asks for new authorizations of the user.
-pub fn put_auths<'a, W: Output>(
+// Puts what asks for new authorizations of the user.
+fn put_auths<'a, W: Output>(
     output: &mut W,
     user: &'a [u8],
     auths: &'a AuthSet,
@@ -218,8 +210,8 @@ fn put_right<W: Output>(
     }
 }
 
-/// Puts an opcode, a user, and a permission for the whole server.
-pub fn put_system<W: Output>(
+// Puts an opcode, a user, and a permission for the whole server.
+fn put_system<W: Output>(
     output: &mut W,
     opcode: u8,
     user: &[u8],
@@ -238,8 +230,8 @@ pub fn put_system<W: Output>(
     )
 }
 
-/// Puts an opcode, a user, and a permission for a table.
-pub fn put_table<'a, W: Output>(
+// Puts an opcode, a user, and a permission for a table.
+fn put_table<'a, W: Output>(
     output: &mut W,
     opcode: u8,
     user: &'a [u8],
@@ -260,15 +252,6 @@ pub fn put_table<'a, W: Output>(
     )
 }
 
-fn time_byte(time: TimeMode) -> u8
-    ensures { result ≡ time_byte time }
-{
-    match time {
-        TimeMode::Any => 0,
-        TimeMode::Server => 1,
-    }
-}
-
 fn extent_byte(extent: Extent) -> u8
     ensures { result ≡ extent_byte extent }
 {
@@ -278,12 +261,8 @@ fn extent_byte(extent: Extent) -> u8
     }
 }
 
-/// Puts what asks for a mutation of the table.
-pub fn put_write<W: Output>(
-    output: &mut W,
-    table: &[u8],
-    mutation: &Mutation,
-) -> Result<(), WriteFault>
+// Puts what asks for a mutation of the table.
+fn put_write<W: Output>(output: &mut W, table: &[u8], mutation: &Mutation) -> Result<(), WriteFault>
     ensures { Puts W.Output output.old output.new (10 ∷ (field table.now ++ mutation_bytes mutation.now)) result }
 {
     put_byte(output, 0x0a)?;

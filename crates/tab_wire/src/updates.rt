@@ -1,31 +1,16 @@
 //! The updates of a mutation, read from a frame.
 ghost use Rattle.std.specs.Prelude.{◌≡◌};
-ghost use Rattle.tab_parts.specs.Reading.{kind_at, parts_at};
+ghost use Rattle.tab_codec.specs.Reading.{kind_at, parts_at};
 ghost use Rattle.tab_text.specs.Gives.{Gives};
 ghost use Rattle.tab_wire.specs.Gives.{bytes_left};
 ghost use Rattle.tab_wire.specs.FrameReading.{timestamp_at, update_at, updates_at, mutation_at};
 ghost use Rattle.tab_wire.specs.Updating.{updated, grown};
 
-use crate::fields::{Fields, a_byte, a_field, a_number, a_signed_number};
 use std::alloc::Global;
+use tab_codec::{Fields, a_byte, a_field, a_kind, a_number, a_signed_number};
 use tab_key::Kind;
 use tab_mutation::Mutation;
 use tab_text::ParseError;
-
-// Takes the byte of a kind.
-#[tactic(auto, unfolding(tab_parts::specs::Reading::kind_at))]
-fn a_kind(fields: &mut Fields) -> Result<Kind, ParseError>
-    ensures { Gives (λ x. (x, bytes_left fields.new)) result (kind_at (bytes_left fields.old)) }
-{
-    let flag = a_byte(fields)?;
-    if flag == 0 {
-        Ok(Kind::Delete)
-    } else if flag == 1 {
-        Ok(Kind::Put)
-    } else {
-        Err(ParseError::Malformed)
-    }
-}
 
 // Takes a timestamp that may be missing.
 #[tactic(auto, unfolding(crate::specs::FrameReading::timestamp_at))]
@@ -81,7 +66,7 @@ fn add_updates(fields: &mut Fields, mutation: &mut Mutation) -> Result<(), Parse
     ensures { Gives (λ x. (mutation.new, bytes_left fields.new)) result (grown mutation.old (updates_at (bytes_left fields.old))) }
 {
     let count = a_number(fields)?;
-    if fields.rest.len() < count as usize * 14 {
+    if fields.left() < count as usize * 14 {
         return Err(ParseError::Malformed);
     }
     add_each(count, fields, mutation)

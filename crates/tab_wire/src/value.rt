@@ -8,7 +8,7 @@ ghost use Rattle.tab_io.specs.Writing.{Puts};
 ghost use Rattle.tab_wire.specs.Replies.{u32, field, list, frame, violation_bytes};
 ghost use Rattle.tab_wire.specs.Values.{value_bytes, joined};
 
-use crate::numbers::{low, put_field, put_length, put_long, put_number, put_signed};
+use tab_codec::{low, put_field, put_length, put_long, put_number, put_signed};
 use tab_io::{Output, WriteFault, put_byte};
 use tab_rules::Violation;
 use tab_text::{PutItem, put_each};
@@ -68,7 +68,7 @@ fn length_of_violations(violations: &[Violation]) -> u32
 }
 
 // How many bytes the value has, as four bytes hold it.
-#[tactic(auto, unfolding(crate::specs::Replies::u32, crate::specs::Replies::u64, crate::specs::Replies::i64))]
+#[tactic(auto, unfolding(tab_codec::specs::Spelling::u32, tab_codec::specs::Spelling::u64, tab_codec::specs::Spelling::i64))]
 fn length_of(value: &Value<'_>) -> u32
     ensures { result ≡ length (value_bytes value.now) % 2 ^ 32 }
 {

@@ -1,7 +1,7 @@
 use Rattle.std.proofs.Common.{rules, [], ◌∷◌, ◌++◌}
 use Rattle.tab_io.specs.Writing.{HasPutPart}
 use Rattle.tab_io.proofs.Putting.{puts_more, part_longer}
-use Rattle.tab_parts.specs.Parts.{kind_byte}
+use Rattle.tab_codec.specs.Parts.{kind_byte}
 use Rattle.tab_wire.specs.Replies.{field}
 use Rattle.tab_wire.specs.Sending.{timestamp_bytes, value_part}
 use Rattle.tab_wire.proofs.asking.put_update.Goals as goal

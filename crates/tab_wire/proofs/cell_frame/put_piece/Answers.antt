@@ -4,7 +4,7 @@ use Rattle.tab_io.specs.Writing.{Puts}
 use Rattle.tab_io.proofs.Putting.{puts}
 use Rattle.tab_wire.specs.Replies.{u32, field}
 use Rattle.tab_wire.proofs.CellLengths.{with_lead}
-use Rattle.tab_wire.proofs.Lengths.{low_bytes}
+use Rattle.tab_codec.proofs.Lengths.{low_bytes}
 use Rattle.tab_wire.proofs.cell_frame.put_piece.Goals as goal
 
 pub returns : goal.returns

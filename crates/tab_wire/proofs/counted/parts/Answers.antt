@@ -1,7 +1,7 @@
 use Rattle.std.proofs.Common.{◌≡◌, ◌++◌, ◌∷◌, [], ap, ◌∙◌}
 use Rattle.std.specs.Prelude.{map}
 use Rattle.std.proofs.lemmas.List.{map_push}
-use Rattle.tab_parts.specs.Reading.{parts_at}
+use Rattle.tab_codec.specs.Reading.{parts_at}
 use Rattle.tab_wire.specs.Gives.{bytes_left}
 use Rattle.tab_wire.proofs.Loop.{goes_on}
 use Rattle.tab_wire.proofs.counted.parts.Goals as goal

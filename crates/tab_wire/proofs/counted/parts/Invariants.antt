@@ -1,6 +1,6 @@
 use Rattle.std.proofs.Common.{◌≡◌, ◌-◌}
 use Rattle.std.specs.Prelude.{map}
-use Rattle.tab_parts.specs.Reading.{parts_at}
+use Rattle.tab_codec.specs.Reading.{parts_at}
 use Rattle.tab_wire.specs.Gives.{bytes_left}
 use Rattle.tab_wire.proofs.Loop.{with_front}
 use Rattle.tab_wire.proofs.counted.parts.Given as goal

@@ -1,4 +1,4 @@
-use Rattle.tab_parts.specs.Reading.{parts_at}
+use Rattle.tab_codec.specs.Reading.{parts_at}
 use Rattle.tab_wire.specs.Gives.{bytes_left}
 use Rattle.tab_wire.specs.FrameReading.{update_at}
 use Rattle.tab_wire.specs.Updating.{grown}

@@ -1,5 +1,5 @@
 use Rattle.std.proofs.Common.{◌≡◌, ◌-◌}
-use Rattle.tab_parts.specs.Reading.{parts_at}
+use Rattle.tab_codec.specs.Reading.{parts_at}
 use Rattle.tab_wire.specs.Gives.{bytes_left}
 use Rattle.tab_wire.specs.FrameReading.{update_at}
 use Rattle.tab_wire.specs.Updating.{grown}

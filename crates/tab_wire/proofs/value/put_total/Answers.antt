@@ -3,7 +3,8 @@ use Rattle.std.specs.List.{flat_map}
 use Rattle.tab_io.specs.Writing.{Puts}
 use Rattle.tab_wire.specs.Replies.{u32}
 use Rattle.tab_wire.specs.Values.{value_bytes}
-use Rattle.tab_wire.proofs.Lengths.{low_bytes, joined_each}
+use Rattle.tab_codec.proofs.Lengths.{low_bytes}
+use Rattle.tab_wire.proofs.Lengths.{joined_each}
 use Rattle.tab_wire.proofs.value.put_total.Goals as goal
 
 pub returns : goal.returns

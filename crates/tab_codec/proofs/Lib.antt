@@ -1,0 +1,12 @@
+pub mod Exact
+pub mod NameLemmas
+pub mod PartLaw
+pub mod TagLaw
+pub mod BitLaw
+pub mod WholeLaw
+pub mod Coded
+pub mod Lengths
+pub mod BitSteps
+pub mod SetLemmas
+pub mod Written
+pub mod ChoiceCode
