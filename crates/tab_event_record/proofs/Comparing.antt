@@ -1,5 +1,5 @@
--- What `==` says of refusals, of rights, of scans and of plain acts: it is true of two that are one, and of no others.
-use Rattle.std.proofs.Common.{rules, ◌≡◌, ℕ, List, true, refl, sym, subst, bytes_eq, nat_eq}
+-- What `==` says of refusals and of rights: it is true of two that are one, and of no others.
+use Rattle.std.proofs.Common.{rules, ◌≡◌, ℕ, List, true, refl, sym, subst, bytes_eq}
 use Rattle.std.proofs.lemmas.Bool.Decides.{Decides-and, Decides-like}
 use Rattle.std.specs.Bool.{Decides}
 use Rattle.std.specs.Cmp.{booleans_Decides}
@@ -7,10 +7,6 @@ use Rattle.std.specs.Cmp.Rules.{comparing}
 use Rattle.std.specs.Cmp.Lexicographic.{pointwise}
 use mathlib.Core.Bool.{true≢false}
 use Rattle.tab_key.proofs.Each.{lists_equal}
-use Rattle.tab_key.specs.declared.column.Column.{Column}
-use Rattle.tab_key.specs.contracts.column.ColumnPartialEq.TheImpl.{eq-value as column_eq}
-use Rattle.tab_key.specs.declared.range.Bounds.{Bounds}
-use Rattle.tab_key.specs.contracts.range.BoundsPartialEq.TheImpl.{eq-value as bounds_eq}
 use Rattle.tab_rules.specs.declared.violation.Violation.{Violation}
 use Rattle.tab_rules.specs.contracts.violation.ViolationPartialEq.TheImpl.{eq-value as violation_eq}
 use Rattle.tab_history.specs.declared.reply.Refusal.{Refusal}
@@ -22,12 +18,6 @@ use Rattle.tab_policy.specs.declared.sets.TablePermissions.{TablePermissions}
 use Rattle.tab_policy.specs.contracts.sets.TablePermissionsPartialEq.TheImpl.{eq-value as table_eq}
 use Rattle.tab_history.specs.declared.rights.Rights.{Rights}
 use Rattle.tab_history.specs.contracts.rights.RightsPartialEq.TheImpl.{eq-value as rights_eq}
-use Rattle.tab_event_record.specs.Acts.{scan_in}
-use Rattle.tab_event_record.specs.declared.act.RecordedScan.{RecordedScan}
-use Rattle.tab_event_record.specs.contracts.act.RecordedScanPartialEq.TheImpl.{eq-value as scan_eq}
-use Rattle.tab_event_record.specs.declared.act.PlainAct.{PlainAct}
-use Rattle.tab_event_record.specs.declared.act.PlainAct.TheVariants.{CreateTable, DropTable, SetVersions, SetHorizon, CreateUser, DropUser, Grant, Revoke, Rights as OwnRights, Status, Flush, Compact, AddSplit, SplitBySize, Splits, Save, Load, Rotate, Begin, Install}
-use Rattle.tab_event_record.specs.contracts.act.PlainActPartialEq.TheImpl.{eq-value as act_eq}
 
 violations : (xs ys : List Violation) → Decides (pointwise violation_eq.it xs ys) (xs ≡ ys)
 violations = lists_equal (λ a b. search (comparing, rules))
@@ -66,35 +56,6 @@ itself a = search (violations, rules) depth 12 fits 5000
 pub refusals : (a b : Refusal) → Decides (refusal_eq.it a b) (a ≡ b)
 refusals a b = (one_refusal a b, λ same. subst (λ (r : Refusal). refusal_eq.it a r ≡ true) same (itself a))
 
-one_act : (a b : PlainAct) → act_eq.it a b ≡ true → a ≡ b
-one_act (CreateTable t time n) (CreateTable s mode m) e = search rules
-one_act (DropTable t) (DropTable s) e = search rules
-one_act (SetVersions t n) (SetVersions s m) e = search rules
-one_act (SetHorizon t n) (SetHorizon s m) e = search rules
-one_act (CreateUser n) (CreateUser m) e = search rules
-one_act (DropUser n) (DropUser m) e = search rules
-one_act (Grant n p) (Grant m q) e = search rules
-one_act (Revoke n p) (Revoke m q) e = search rules
-one_act (OwnRights t) (OwnRights s) e = search rules
-one_act (Status t) (Status s) e = search rules
-one_act (Flush t) (Flush s) e = search rules
-one_act (Compact t x) (Compact s y) e = search rules
-one_act (AddSplit t x) (AddSplit s y) e = search rules
-one_act (SplitBySize t x n) (SplitBySize s y m) e = search rules
-one_act (Splits t) (Splits s) e = search rules
-one_act Save Save e = refl
-one_act Load Load e = refl
-one_act Rotate Rotate e = refl
-one_act (Begin t x k) (Begin s y l) e = search rules
-one_act (Install t x) (Install s y) e = search rules
-one_act a b e = absurd (true≢false (sym e))
-
-act_itself : (a : PlainAct) → act_eq.it a a ≡ true
-act_itself a = search rules depth 12 fits 5000
-
-pub acts : (a b : PlainAct) → Decides (act_eq.it a b) (a ≡ b)
-acts a b = (one_act a b, λ same. subst (λ (r : PlainAct). act_eq.it a r ≡ true) same (act_itself a))
-
 -- ---- field by field
 systems : (a b : SystemPermissions) → Decides (system_eq.it a b) (a ≡ b)
 systems a b = Decides-like (system_eq.it a b)
@@ -116,18 +77,3 @@ rights a b = Decides-like (rights_eq.it a b)
     (λ p i. record { system = p.0 i; table = p.1.0 i; authorizations = p.1.1 i })
     (λ same. (λ i. (same i).system, (λ i. (same i).table, λ i. (same i).authorizations)))
     (Decides-and _ _ (systems a.system b.system) (Decides-and _ _ (tables a.table b.table) (auths a.authorizations b.authorizations)))
-
-columns : (xs ys : List Column) → Decides (pointwise column_eq.it xs ys) (xs ≡ ys)
-columns = lists_equal (λ a b. search rules)
-
-names : (a b : List ℕ) → Decides (pointwise nat_eq a b) (a ≡ b)
-names = lists_equal (λ a b. search rules)
-
-bounds : (a b : Bounds) → Decides (bounds_eq.it a b) (a ≡ b)
-bounds a b = search rules
-
-pub scans : (a b : RecordedScan) → Decides (scan_eq.it a b) (scan_in a ≡ scan_in b)
-scans a b = Decides-like (scan_eq.it a b)
-    (λ p i. record { table = p.0 i; bounds = p.1.0 i; columns = p.1.1.0 i; authorizations = p.1.1.1 i })
-    (λ same. (λ i. (same i).table, (λ i. (same i).bounds, (λ i. (same i).columns, λ i. (same i).authorizations))))
-    (Decides-and _ _ (names a.table b.table) (Decides-and _ _ (bounds a.bounds b.bounds) (Decides-and _ _ (columns a.columns b.columns) (auths a.authorizations b.authorizations))))

@@ -3,9 +3,9 @@ use Rattle.std.proofs.Common.{◌≡◌, ℕ, zero, suc, ◌+◌, ◌≤◌, Lis
 use Rattle.std.specs.Prelude.{unwrap_or}
 use Rattle.std.specs.List.{fold}
 use Rattle.std.proofs.lemmas.List.Sums.{fold-append}
-use Rattle.tab_parts.specs.Parts.{IsBytes}
-use Rattle.tab_parts.specs.Reading.{◌>>=◌}
-use Rattle.tab_parts.proofs.Exact.{bytes-drop, bind_some}
+use Rattle.tab_codec.specs.Parts.{IsBytes}
+use Rattle.tab_codec.specs.Reading.{◌>>=◌}
+use Rattle.tab_codec.proofs.Exact.{bytes-drop, bind_some}
 use Rattle.tab_journal.specs.declared.seal.Seal.{Seal}
 use Rattle.tab_journal.specs.Journals.{Header, Batch, IsBatch, AreBatches, IsJournal}
 use Rattle.tab_journal.specs.Reading.{header_at, batch_at, batches_within, journal_from, journal_of}

@@ -3,9 +3,9 @@ use Rattle.std.proofs.Common.{◌≡◌, ℕ, ◌+◌, ◌-◌, ◌≤◌, ◌<�
 use Rattle.std.specs.Prelude.{is_some, option_map}
 use Rattle.std.proofs.lemmas.Bool.{cases_lt}
 use Rattle.std.proofs.lemmas.List.{drop_at, take-append-drop, length-append, length-take}
-use Rattle.tab_parts.specs.Parts.{IsBytes, IsU64}
-use Rattle.tab_parts.specs.Reading.{u64_at}
-use Rattle.tab_parts.proofs.Exact.{bytes-drop, some_inj, bind_some, exact_u64}
+use Rattle.tab_codec.specs.Parts.{IsBytes, IsU64}
+use Rattle.tab_codec.specs.Reading.{u64_at}
+use Rattle.tab_codec.proofs.Exact.{bytes-drop, some_inj, bind_some, exact_u64}
 use Rattle.tab_journal.specs.declared.seal.Seal.{Seal}
 use Rattle.tab_journal.specs.Journals.{Batch, IsSummed}
 use Rattle.tab_journal.specs.Reading.{tag_in, summed_at, batch_at}

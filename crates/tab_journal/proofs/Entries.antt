@@ -4,10 +4,10 @@ use Rattle.std.specs.Prelude.{unwrap_or}
 use Rattle.std.proofs.lemmas.Bool.Decides.{nat_tests}
 use Rattle.std.proofs.lemmas.List.{length-append, nil_from_length}
 use Rattle.tab_history.specs.declared.event.Event.{Event}
-use Rattle.tab_parts.specs.Parts.{IsBytes}
-use Rattle.tab_parts.specs.Reading.{◌>>=◌, i64_at, u64_at}
-use Rattle.tab_parts.proofs.Exact.{some_inj}
-use Rattle.tab_parts.proofs.PartLaw.{eq_is}
+use Rattle.tab_codec.specs.Parts.{IsBytes}
+use Rattle.tab_codec.specs.Reading.{◌>>=◌, i64_at, u64_at}
+use Rattle.tab_codec.proofs.Exact.{some_inj}
+use Rattle.tab_codec.proofs.PartLaw.{eq_is}
 use Rattle.tab_journal.specs.Journals.{AreEntries}
 use Rattle.tab_journal.specs.Laws.{EntriesAreRead}
 use Rattle.tab_journal.specs.Reading.{entry_at, entries_within, entries_from, entries_in}

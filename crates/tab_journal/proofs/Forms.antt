@@ -8,11 +8,11 @@ use Rattle.std.proofs.lemmas.Slice.Eq.{bytes_eq-Decides}
 use Rattle.std.proofs.lemmas.List.{take_at, drop_at, length-append}
 use Rattle.tab_history.specs.declared.event.Act.{Act}
 use Rattle.tab_history.specs.declared.event.Event.{Event}
-use Rattle.tab_parts.specs.Parts.{IsBytes, IsU64, IsI64, IsField, IsNameField}
-use Rattle.tab_parts.specs.Reading.{Reader, and_then, picked, u64_at, i64_at, bytes_at, field_at, name_at}
-use Rattle.tab_parts.specs.Exactness.{Exact}
-use Rattle.tab_parts.proofs.Exact.{bytes-drop, bytes-take, some_inj, bind_some, on_bind, exact_as, Follows, exact_then, Picks, exact_picked, exact_given, exact_u64, exact_bytes}
-use Rattle.tab_parts.proofs.PartLaw.{exact_i64, exact_field, exact_name, only_passed, only_passes, field_long, eq_is}
+use Rattle.tab_codec.specs.Parts.{IsBytes, IsU64, IsI64, IsField, IsNameField}
+use Rattle.tab_codec.specs.Reading.{Reader, and_then, picked, u64_at, i64_at, bytes_at, field_at, name_at}
+use Rattle.tab_codec.specs.Exactness.{Exact}
+use Rattle.tab_codec.proofs.Exact.{bytes-drop, bytes-take, some_inj, bind_some, on_bind, exact_as, Follows, exact_then, Picks, exact_picked, exact_given, exact_u64, exact_bytes}
+use Rattle.tab_codec.proofs.PartLaw.{exact_i64, exact_field, exact_name, only_passed, only_passes, field_long, eq_is}
 use Rattle.tab_wire.specs.Requests.{request_in}
 use Rattle.tab_wire.specs.declared.request.Request.{Request}
 use Rattle.tab_wire.specs.declared.request.Request.TheVariants as asks

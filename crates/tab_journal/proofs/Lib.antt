@@ -1,10 +1,11 @@
 pub mod Forms
 pub mod Entries
-pub mod Asked
+pub mod EntryParts
 pub mod Whole
 pub mod Hashing
 pub mod Steps
-pub mod Spelled
+pub mod Bodies
+pub mod Outcomes
 pub mod Keeping
 pub mod Texts
 pub mod Stretching

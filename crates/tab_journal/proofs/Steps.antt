@@ -3,8 +3,8 @@ use Rattle.std.proofs.Common.{◌≡◌, ℕ, ◌≤◌, ◌<◌, Bool, true, fa
 use Rattle.std.specs.Int.{w64, w32, from_be_bytes}
 use Rattle.std.proofs.lemmas.Bool.{ltb-false}
 use Rattle.std.proofs.lemmas.List.{length-drop}
-use Rattle.tab_parts.specs.Reading.{◌>>=◌, u32_at, u64_at, bytes_at, field_at}
-use Rattle.tab_parts.proofs.Exact.{some_inj, on_bind}
+use Rattle.tab_codec.specs.Reading.{◌>>=◌, u32_at, u64_at, bytes_at, field_at}
+use Rattle.tab_codec.proofs.Exact.{some_inj, on_bind}
 use Rattle.tab_journal.specs.declared.seal.Form.{Form}
 use Rattle.tab_journal.specs.declared.seal.Form.TheVariants.{Plain, Tagged}
 use Rattle.tab_journal.specs.declared.seal.Seal.{Seal}

@@ -4,8 +4,8 @@ use Rattle.std.specs.Prelude.{nat_le, slice_range}
 use Rattle.std.proofs.Math.ListN.{get_or-append}
 use Rattle.std.proofs.lemmas.Bool.{cases_lt}
 use Rattle.std.proofs.lemmas.List.{get_or-append_right, take_at, drop_at, take-append-le, drop-append-le, length-append, length-take, length-drop}
-use Rattle.tab_parts.specs.Parts.{IsBytes}
-use Rattle.tab_parts.proofs.Exact.{bind_some}
+use Rattle.tab_codec.specs.Parts.{IsBytes}
+use Rattle.tab_codec.proofs.Exact.{bind_some}
 use Rattle.std.specs.Int.{w32, to_be_bytes}
 use Rattle.tab_journal.specs.declared.cursor.Cursor.{Cursor}
 use Rattle.tab_journal.specs.declared.header.Header.{Header as TheFront}

@@ -3,8 +3,8 @@ use Rattle.std.proofs.Common.{◌≡◌, ℕ, zero, suc, ◌-◌, ◌≤◌, ◌
 use Rattle.std.specs.Prelude.{unwrap_or}
 use Rattle.std.specs.List.{fold}
 use Rattle.std.proofs.lemmas.List.{take-take, length-take, length-drop}
-use Rattle.tab_parts.specs.Reading.{◌>>=◌}
-use Rattle.tab_parts.proofs.Exact.{bind_some}
+use Rattle.tab_codec.specs.Reading.{◌>>=◌}
+use Rattle.tab_codec.proofs.Exact.{bind_some}
 use Rattle.tab_journal.specs.Crashes.{HasFirst}
 use Rattle.tab_journal.specs.Damage.{StandsAt, IsDamaged, read_of, CrashesLeaveTornEnds, CutsAreTorn}
 use Rattle.tab_journal.specs.declared.seal.Seal.{Seal}

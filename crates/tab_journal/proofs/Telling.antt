@@ -3,7 +3,7 @@ use Rattle.std.proofs.Common.{◌≡◌, ℕ, ◌+◌, ◌-◌, ◌≤◌, List,
 use Rattle.std.specs.List.{fold}
 use Rattle.std.proofs.lemmas.Bool.{cases_lt}
 use Rattle.std.proofs.lemmas.List.{take_at, drop_at, take-append-le, length-take, length-drop}
-use Rattle.tab_parts.specs.Parts.{IsU64}
+use Rattle.tab_codec.specs.Parts.{IsU64}
 use Rattle.tab_journal.specs.Damage.{StandsAt, read_of, place_behind, DamageIsTold}
 use Rattle.tab_journal.specs.declared.seal.Form.{Form}
 use Rattle.tab_journal.specs.declared.seal.Form.TheVariants.{Plain, Tagged}

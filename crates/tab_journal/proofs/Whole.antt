@@ -4,10 +4,11 @@ use Rattle.std.specs.Prelude.{unwrap_or}
 use Rattle.std.specs.List.{fold}
 use Rattle.std.proofs.lemmas.Bool.{cases_lt}
 use Rattle.std.proofs.lemmas.List.{take-append-drop, drop_at, length-append, length-drop, length-take, nil_from_length}
-use Rattle.tab_parts.specs.Parts.{IsBytes}
-use Rattle.tab_parts.specs.Reading.{◌>>=◌, Reader, u64_at}
-use Rattle.tab_parts.specs.Exactness.{Exact}
-use Rattle.tab_parts.proofs.Exact.{bytes-drop, bytes-take, some_inj, bind_some, on_bind}
+use Rattle.tab_codec.specs.Parts.{IsBytes}
+use Rattle.tab_codec.specs.Reading.{◌>>=◌, Reader, u64_at}
+use Rattle.tab_codec.specs.Exactness.{Exact}
+use Rattle.tab_codec.proofs.Exact.{bytes-drop, bytes-take, some_inj, bind_some, on_bind}
+use Rattle.tab_codec.proofs.Coded.{cut_off}
 use Rattle.tab_journal.specs.declared.seal.Form.{Form}
 use Rattle.tab_journal.specs.declared.seal.Form.TheVariants.{Plain, Tagged}
 use Rattle.tab_journal.specs.declared.seal.Seal.{Seal}
@@ -18,18 +19,8 @@ use Rattle.tab_journal.proofs.Forms.{exact_front, front_long, exact_batch, batch
 
 -- ---- nothing is read of a part that is cut
 cut_none : {A : Type 0} (reads : Reader A) (Says : List ℕ → A → Type 0) → Exact reads Says → (whole : List ℕ) (x : A) (m : ℕ) → Says whole x → m < length whole → IsBytes (take m whole) → reads (take m whole) ≡ None
-cut_none {A} reads Says e whole x m says less fits = go (reads (take m whole)) refl
-  where
-    go : (o : Option (A × List ℕ)) → reads (take m whole) ≡ o → reads (take m whole) ≡ None
-    go None is = is
-    go (Some (y, rest)) is =
-        let t = e.sound (take m whole) y rest fits is in
-        let again : reads (t.front ++ (rest ++ drop m whole)) ≡ Some (y, rest ++ drop m whole) = e.complete t.front (rest ++ drop m whole) y t.says in
-        let same : t.front ++ (rest ++ drop m whole) ≡ whole ++ [] = sym (append_assoc t.front rest (drop m whole)) ∙ ap (λ (z : List ℕ). z ++ drop m whole) (sym t.parts) ∙ take-append-drop m whole ∙ sym (append-nil whole) in
-        let one : Some (y, rest ++ drop m whole) ≡ Some (x, []) = sym again ∙ ap reads same ∙ e.complete whole [] x says in
-        let nothing : rest ++ drop m whole ≡ [] = ap (λ (p : A × List ℕ). p.1) (some_inj (y, rest ++ drop m whole) (x, []) one) in
-        let none : length rest + length (drop m whole) ≡ 0 = sym (length-append rest (drop m whole)) ∙ ap (λ (z : List ℕ). length z) nothing in
-        absurd (omega (arith, none, less, length-drop m whole))
+cut_none reads Says e whole x m says less fits =
+    cut_off reads Says e whole (take m whole) (drop m whole) x says (sym (take-append-drop m whole)) (λ none. omega (arith, less, length-drop m whole, ap (λ (z : List ℕ). length z) none)) fits
 
 take_within : (m : ℕ) (xs ys : List ℕ) → m < length xs → take m (xs ++ ys) ≡ take m xs
 take_within zero xs ys less = refl

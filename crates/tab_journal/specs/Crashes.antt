@@ -1,6 +1,6 @@
 -- For proofs. What a crash leaves of a journal, and what is read of that.
 use Rattle.std.specs.Prelude.{ℕ, suc, ◌≡◌, ◌≤◌, List, [], ◌∷◌, ◌++◌, length, take, Some}
-use Rattle.tab_parts.specs.Parts.{IsBytes}
+use Rattle.tab_codec.specs.Parts.{IsBytes}
 use Rattle.tab_journal.specs.Journals.{Header, Batch, IsJournal}
 use Rattle.tab_journal.specs.Reading.{batch_at, journal_of}
 use Rattle.tab_journal.specs.Laws.{last_sum}

@@ -1,6 +1,6 @@
 -- For proofs. What a cursor stands for.
 use Rattle.std.specs.Prelude.{ℕ, ◌≡◌, ◌+◌, ◌-◌, ◌<◌, ◌≤◌, ◌^◌, Bool, true, false, List, [], ◌∷◌, ◌++◌, length, take, drop, None, slice_range}
-use Rattle.tab_parts.specs.Parts.{IsBytes}
+use Rattle.tab_codec.specs.Parts.{IsBytes}
 use Rattle.tab_journal.specs.declared.cursor.Cursor.{Cursor}
 use Rattle.tab_journal.specs.Journals.{Batch, IsJournal}
 use Rattle.tab_journal.specs.Laws.{last_sum}

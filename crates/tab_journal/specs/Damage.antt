@@ -1,7 +1,7 @@
 -- To be believed by whoever relies on it. When what stands behind the batches that were read of a journal is damaged, and when it is torn.
 use Rattle.std.specs.Prelude.{ℕ, ◌≡◌, ◌≢◌, ◌≤◌, ◌<◌, ◌+◌, ◌-◌, List, [], ◌∷◌, ◌++◌, length, take, drop, Some}
 use Rattle.std.specs.List.{Contains}
-use Rattle.tab_parts.specs.Parts.{IsBytes, IsU64}
+use Rattle.tab_codec.specs.Parts.{IsBytes, IsU64}
 use Rattle.tab_journal.specs.declared.seal.Form.{Form}
 use Rattle.tab_journal.specs.declared.seal.Seal.{Seal}
 use Rattle.tab_journal.specs.Journals.{Header, Batch, IsBatch}

@@ -1,6 +1,6 @@
 -- Worked examples, computed: the forms of headers and batches.
 use Rattle.std.specs.Prelude.{pos, true, false, ◌≡◌, [], ◌∷◌, ◌++◌, codes, Some, None, refl}
-use Rattle.tab_parts.specs.Reading.{u32_at, u64_at, field_at}
+use Rattle.tab_codec.specs.Reading.{u32_at, u64_at, field_at}
 use Rattle.tab_wire.specs.Replies.{u32, u64, i64}
 use Rattle.tab_journal.specs.declared.format.Format.TheVariants.{Lines, Events}
 use Rattle.tab_journal.specs.declared.seal.Form.TheVariants.{Plain, Tagged}

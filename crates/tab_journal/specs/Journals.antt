@@ -2,7 +2,7 @@
 use Rattle.std.specs.Prelude.{ℕ, ℤ, ◌≡◌, List, [], ◌∷◌, ◌++◌, codes}
 use Rattle.std.specs.Hash.DefaultHasher.{initial, write, finish}
 use Rattle.tab_history.specs.declared.event.Event.{Event}
-use Rattle.tab_parts.specs.Parts.{IsBytes, IsU64, IsI64, IsField, IsNameField, AreParts}
+use Rattle.tab_codec.specs.Parts.{IsBytes, IsU64, IsI64, IsField, IsNameField, AreParts}
 use Rattle.tab_wire.specs.Forms.{IsRequest}
 use Rattle.tab_wire.specs.Replies.{u64, i64, field}
 use Rattle.tab_wire.specs.declared.request.Request.TheVariants as asks

@@ -3,7 +3,7 @@ use Rattle.std.specs.Prelude.{ℕ, ◌≡◌, ◌↔◌, ◌≤◌, ◌<◌, ◌
 use Rattle.std.specs.Int.{w64, cast_unsigned}
 use Rattle.std.specs.List.{fold}
 use Rattle.tab_history.specs.declared.event.Event.{Event}
-use Rattle.tab_parts.specs.Parts.{IsBytes}
+use Rattle.tab_codec.specs.Parts.{IsBytes}
 use Rattle.tab_journal.specs.declared.seal.Form.{Form}
 use Rattle.tab_journal.specs.declared.seal.Form.TheVariants.{Plain, Tagged}
 use Rattle.tab_journal.specs.declared.seal.Seal.{Seal}

@@ -1,7 +1,8 @@
 pub mod Journals
 pub mod Reading
 pub mod Spelling
-pub mod Fitting
+pub mod Bodies
+pub mod Outcomes
 pub mod Stretches
 pub mod Gathering
 pub mod Laws

@@ -1,7 +1,7 @@
 -- For proofs. What a reader of a journal stands for.
 use Rattle.std.specs.Prelude.{⊤, ℕ, ◌≡◌, ◌≤◌, ◌<◌, ◌↔◌, Bool, true, false, List, [], ◌∷◌, ◌++◌, length, take, Some, None}
 use Rattle.std.specs.declared.io.Error.{Error}
-use Rattle.tab_parts.specs.Parts.{IsBytes}
+use Rattle.tab_codec.specs.Parts.{IsBytes}
 use Rattle.tab_journal.specs.declared.device.DeviceError.TheVariants.{Failed}
 use Rattle.tab_journal.specs.declared.header.Header.{Header as TheFront}
 use Rattle.tab_journal.specs.declared.journal_end.JournalEnd.{JournalEnd}

@@ -1,11 +1,9 @@
 -- For proofs. What the bytes of a journal say, as a function.
 use Rattle.std.specs.Prelude.{ℕ, ℤ, zero, suc, ◌==◌, List, [], ◌∷◌, length, bytes_eq, Option, Some, None, unwrap_or, if◌then◌else◌}
-use Rattle.tab_history.specs.declared.event.Act.{Act}
 use Rattle.tab_history.specs.declared.event.Event.{Event}
-use Rattle.tab_parts.specs.Reading.{◌>>=◌, Reader, and_then, mapped, picked, given, only_if, whole, u64_at, i64_at, bytes_at, field_at, is_name, name_at}
+use Rattle.tab_codec.specs.Reading.{◌>>=◌, Reader, and_then, mapped, picked, given, only_if, whole, u64_at, i64_at, bytes_at, field_at, is_name, name_at}
 use Rattle.tab_wire.specs.Requests.{request_in}
-use Rattle.tab_wire.specs.declared.request.Request.{Request}
-use Rattle.tab_wire.specs.declared.request.Request.TheVariants as asks
+pub use Rattle.tab_event_record.specs.Records.{act_of}
 use Rattle.tab_journal.specs.declared.format.Format.{Format}
 use Rattle.tab_journal.specs.declared.format.Format.TheVariants.{Lines, Events}
 use Rattle.tab_journal.specs.declared.seal.Form.{Form}
@@ -73,11 +71,6 @@ unfoldable pub journal_of : List ℕ → Option Journal
 journal_of bytes = header_at bytes >>= λ f. Some (journal_from f)
 
 -- ---- entries
--- the act that is asked, if that is what is asked
-abbrev pub act_of : Option Request → Option Act
-act_of (Some (asks.Act act)) = Some act
-act_of asked = None
-
 abbrev pub event_of : ℤ → List ℕ → List ℕ → Option Event
 event_of moment user body = act_of (request_in body) >>= λ act. Some (record { user = user; moment = moment; act = act })
 

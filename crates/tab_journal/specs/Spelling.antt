@@ -1,9 +1,7 @@
 -- For proofs. The bytes that are written.
-use Rattle.std.specs.Prelude.{ℕ, List, [], ◌++◌, cond}
+use Rattle.std.specs.Prelude.{ℕ, List, [], ◌++◌}
 use Rattle.std.specs.List.{flat_map}
-use Rattle.tab_history.specs.declared.event.Act.{Act}
 use Rattle.tab_history.specs.declared.event.Event.{Event}
-use Rattle.tab_lasting.specs.Lasting.{leaves_trace}
 use Rattle.tab_wire.specs.Replies.{u32, u64, i64, field}
 use Rattle.tab_wire.specs.Sending.{act_bytes}
 use Rattle.tab_journal.specs.declared.seal.Form.{Form}
@@ -38,7 +36,3 @@ entry_bytes e = i64 e.moment ++ (field e.user ++ field (act_bytes e.act))
 -- of several, one behind the other
 abbrev pub entries_bytes : List Event → List ℕ
 entries_bytes = flat_map entry_bytes
-
--- of an act, where it leaves something
-abbrev pub trace_bytes : Act → List ℕ
-trace_bytes act = cond (leaves_trace act) (act_bytes act) []

@@ -1,12 +1,10 @@
 -- To be believed by whoever relies on it. The entries of a stretch of a history that are to outlive a crash, gathered one after the other.
 use Rattle.std.specs.Prelude.{ℤ, ℕ, ◌≡◌, Bool, true, false, List, [], ◌∷◌, ◌++◌, reverse}
-use Rattle.tab_key.specs.declared.limited_part.LimitedPart.TheVariants.{Sessions}
 use Rattle.tab_history.specs.Answers.{Told}
 use Rattle.tab_history.specs.Histories.{Entry, World, clock_of, clock_at, clock_after}
 use Rattle.tab_history.specs.declared.event.Event.{Event as TheEvent}
 use Rattle.tab_history.specs.declared.event.Step.{Step}
 use Rattle.tab_history.specs.declared.event.Step.TheVariants.{Event}
-use Rattle.tab_history.specs.declared.reply.Refusal.TheVariants.{NoMemory, TooLarge, NoSession, NoJob}
 use Rattle.tab_history.specs.declared.reply.Reply.TheVariants.{Refused}
 use Rattle.tab_lasting.specs.Lasting.{lasting_of, lasting}
 use Rattle.tab_journal.specs.Spelling.{entries_bytes}
@@ -25,14 +23,6 @@ events_of (e ∷ es) = event_in e.step ++ events_of es
 abbrev pub is_refused : Told → Bool
 is_refused (Refused r) = true
 is_refused reply = false
-
--- whether an event that was told so moves the clock, as `clock_after` has it
-abbrev pub moves_clock : Told → Bool
-moves_clock (Refused NoMemory) = false
-moves_clock (Refused (TooLarge Sessions)) = false
-moves_clock (Refused (NoSession slot)) = false
-moves_clock (Refused (NoJob slot)) = false
-moves_clock reply = true
 
 -- the clock behind a stretch, the events of it that are to be kept, the oldest first, and their bytes
 pub record Stretch : Type 0 where

@@ -6,8 +6,8 @@ ghost use Rattle.tab_journal.specs.Spelling.{tag_bytes, head_bytes};
 
 use crate::seal::{Form, Seal};
 use crate::sums::batch_sum;
-use crate::taking::{take_field, take_long};
 use std::alloc::{AllocError, Global};
+use tab_codec::{take_field, take_long};
 
 /// A batch, as it stands in the bytes of a journal.
 #[derive(Clone, Copy, Debug)]

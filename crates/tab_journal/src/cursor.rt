@@ -1,6 +1,6 @@
 //! The bytes of a journal as far as they were read, and how many of them were taken.
 ghost use Rattle.std.specs.Prelude.{◌≡◌, ◌+◌, ◌-◌, ◌<◌, ◌≤◌, ◌^◌, ◌↔◌, ◌&&◌, nat_le, [], None, true, take, length, IfOk, IfSome, IfNone, vec_len};
-ghost use Rattle.tab_parts.specs.Parts.{IsBytes};
+ghost use Rattle.tab_codec.specs.Parts.{IsBytes};
 ghost use Rattle.tab_journal.specs.Damage.{IsDamagedIn};
 ghost use Rattle.tab_journal.specs.Reading.{header_at};
 ghost use Rattle.tab_journal.specs.Said.{end_in};

@@ -5,8 +5,8 @@ ghost use Rattle.tab_journal.specs.declared.seal.Form.TheVariants.{Tagged};
 
 use crate::batch::{take_summed, take_tag};
 use crate::seal::{Form, Seal};
-use crate::taking::take_long;
 use memchr::memmem::Finder;
+use tab_codec::take_long;
 
 // How many bytes a sum has.
 const SUM: usize = 8;

@@ -1,14 +1,13 @@
 //! Entries, read.
-ghost use Rattle.std.specs.Prelude.{◌≡◌, IfOk, Some, option_map};
-ghost use Rattle.tab_parts.specs.Reading.{is_name, only_if};
-ghost use Rattle.tab_wire.specs.Requests.{request_in};
-ghost use Rattle.tab_journal.specs.Reading.{act_of, parts_at, entry_of, entry_of_parts, entry_at};
+ghost use Rattle.std.specs.Prelude.{◌≡◌, IfOk, option_map};
+ghost use Rattle.tab_codec.specs.Reading.{is_name, only_if};
+ghost use Rattle.tab_journal.specs.Reading.{parts_at, entry_of, entry_of_parts, entry_at};
 
-use crate::taking::{take_field, take_signed};
 use std::alloc::{AllocError, Global};
-use tab_history::{Act, Event};
+use tab_codec::{take_field, take_signed};
+use tab_event_record::read_asked;
+use tab_history::Event;
 use tab_key::Name;
-use tab_wire::{Request, Stop, read_request};
 
 /// The entry at the front of some bytes, and what stands behind it. `None`: none begins there that is whole. Memory is taken for the event.
 pub fn next_entry(alloc: Global, bytes: &[u8]) -> Result<Option<(Event, &[u8])>, AllocError>
@@ -57,7 +56,7 @@ fn named_entry<'a>(
 ) -> Result<Option<(Event, &'a [u8])>, AllocError>
     ensures { IfOk result (λ read. option_map (λ x. (x.0, x.1.now)) read ≡ entry_of moment user body.now rest.now) }
 {
-    match asked_act(alloc, body)? {
+    match read_asked(alloc, body)? {
         Some(act) => Ok(Some((Event { user, moment, act }, rest))),
         None => Ok(None),
     }
@@ -68,25 +67,4 @@ fn name_of(text: &[u8]) -> Option<Name>
     ensures { result ≡ only_if is_name text.now }
 {
     Name::new(text)
-}
-
-// The act that the body of a frame asks.
-fn asked_act(alloc: Global, body: &[u8]) -> Result<Option<Act>, AllocError>
-    ensures { IfOk result (λ act. act ≡ act_of (request_in body.now)) }
-{
-    match read_request(alloc, true, body) {
-        Ok(request) => Ok(act_in(request)),
-        Err(Stop::Bad(_)) => Ok(None),
-        Err(Stop::NoMemory) => Err(AllocError),
-    }
-}
-
-// The act, if that is what is asked.
-fn act_in(request: Request) -> Option<Act>
-    ensures { result ≡ act_of (Some request) }
-{
-    match request {
-        Request::Act(act) => Some(act),
-        _ => None,
-    }
 }

@@ -1,25 +1,20 @@
 //! The entries of a stretch of a history, gathered for a batch.
-ghost use Rattle.std.specs.Prelude.{◌≡◌, ◌==◌, ◌<◌, ◌^◌, ◌∷◌, ◌++◌, [], OnOk, OnErr, cond, length, true};
+ghost use Rattle.std.specs.Prelude.{◌≡◌, ◌==◌, ◌∷◌, ◌++◌, [], OnOk, OnErr, length, true};
 ghost use Rattle.std.specs.Int.{int_max};
-ghost use Rattle.tab_history.specs.declared.event.Step.TheVariants.{Event as IsEvent};
-ghost use Rattle.tab_lasting.specs.Lasting.{leaves_trace, lasting_of};
-ghost use Rattle.tab_parts.specs.Parts.{IsBytes};
+ghost use Rattle.tab_lasting.specs.Lasting.{leaves_trace};
+ghost use Rattle.tab_codec.specs.Parts.{IsBytes};
 ghost use Rattle.tab_wire.specs.Replies.{i64, field};
-ghost use Rattle.tab_wire.specs.Sending.{act_bytes};
+ghost use Rattle.tab_io.specs.Writing.{Puts};
 ghost use Rattle.tab_journal.specs.Journals.{AreEntries};
-ghost use Rattle.tab_journal.specs.Stretches.{events_of, moves_clock, begun, gathers, kept_behind};
+ghost use Rattle.tab_journal.specs.Stretches.{begun, kept_behind};
+ghost use Rattle.tab_journal.specs.Outcomes.{clock_by, kept_by, gathers_by};
 
-use crate::fitting::act_fits;
-use crate::lasting::{is_refused, leaves_trace, moves_clock};
-use crate::spelling::{put_act, put_entry};
+use crate::lasting::leaves_trace;
 use std::alloc::{AllocError, Global};
 use std::marker::Model;
-use tab_event_record::EventRecord;
-use tab_history::Reply;
-use tab_wire::Gathering;
-
-// The most bytes of an act in an entry.
-const MOST: usize = 0xffff_ffff;
+use tab_event_record::{EventRecord, Outcome};
+use tab_io::{Output, WriteFault};
+use tab_wire::{Gathering, Value, put_values};
 
 /// The entries of a stretch of a history that are to outlive a crash, as the body of a batch.
 ///
@@ -29,8 +24,6 @@ const MOST: usize = 0xffff_ffff;
 pub struct Gathered {
     clock: i64,
     text: Gathering,
-    // the body of the frame that asks what is being added
-    act: Gathering,
 }
 
 impl Model for Gathered {
@@ -52,7 +45,6 @@ impl Gathered {
         Gathered {
             clock,
             text: Gathering::new(alloc),
-            act: Gathering::new(alloc),
         }
     }
 
@@ -60,29 +52,26 @@ impl Gathered {
     ///
     /// # Errors
     ///
-    /// There is no memory, or the frame that asks the act would have 2^32 bytes or more. Nothing was added then, and the clock stands.
-    pub fn add(&mut self, event: &EventRecord, reply: &Reply) -> Result<(), AllocError>
-        ensures ok { OnOk result (self.new ≡ gathers self.old (IsEvent event.now) reply.now) }
+    /// There is no memory. Nothing was added then, and the clock stands.
+    pub fn add(&mut self, event: &EventRecord, outcome: Outcome) -> Result<(), AllocError>
+        ensures ok { OnOk result (self.new ≡ gathers_by self.old event.now outcome) }
         ensures err { OnErr result (self.new ≡ self.old) }
     {
         let met = later(self.clock, event.moment());
-        self.keep(met, event, reply)?;
-        self.pass(met, reply);
+        self.keep(met, event, outcome)?;
+        self.pass(met, outcome);
         Ok(())
     }
 
     // What is to be kept of an entry that met this clock.
-    fn keep(&mut self, clock: i64, event: &EventRecord, reply: &Reply) -> Result<(), AllocError>
-        ensures ok { OnOk result (self.new ≡ kept_behind self.old self.old.clock (events_of (lasting_of clock (IsEvent event.now) reply.now))) }
+    fn keep(&mut self, clock: i64, event: &EventRecord, outcome: Outcome) -> Result<(), AllocError>
+        ensures ok { OnOk result (self.new ≡ kept_behind self.old self.old.clock (kept_by outcome clock event.now)) }
         ensures err { OnErr result (self.new ≡ self.old) }
     {
-        if !leaves_trace(event.act()) {
-            return Ok(());
+        match outcome {
+            Outcome::Answered if leaves_trace(event) => self.put(clock, event),
+            _ => Ok(()),
         }
-        if is_refused(reply) {
-            return Ok(());
-        }
-        self.put(clock, event)
     }
 
     // An event that leaves something, at this clock.
@@ -91,19 +80,17 @@ impl Gathered {
         ensures ok { OnOk result (self.new ≡ kept_behind self.old self.old.clock (record event.now { moment = clock } ∷ [])) }
         ensures err { OnErr result (self.new ≡ self.old) }
     {
-        event.keeps();
-        act_fits(event.act());
-        gather_act(&mut self.act, event)?;
-        gather_entry(&mut self.text, clock, event.user(), self.act.bytes())?;
+        gather_entry(&mut self.text, clock, event.user(), event.body())?;
         Ok(())
     }
 
-    // The clock goes on, where the reply says so.
-    fn pass(&mut self, clock: i64, reply: &Reply)
-        ensures { self.new ≡ record self.old { clock = cond (moves_clock reply.now) clock self.old.clock } }
+    // The clock goes on, where the outcome says so.
+    fn pass(&mut self, clock: i64, outcome: Outcome)
+        ensures { self.new ≡ record self.old { clock = clock_by outcome clock self.old.clock } }
     {
-        if moves_clock(reply) {
-            self.clock = clock;
+        match outcome {
+            Outcome::Void => {}
+            _ => self.clock = clock,
         }
     }
 
@@ -144,23 +131,6 @@ impl Gathered {
     }
 }
 
-// The body of the frame that asks the event's act, in the place of what was gathered. After an error nothing is said of that.
-fn gather_act(text: &mut Gathering, event: &EventRecord) -> Result<(), AllocError>
-    requires { leaves_trace event.now.act ≡ true }
-    ensures bytes { OnOk result (text.new.bytes.items ≡ act_bytes event.now.act) }
-    ensures short { OnOk result (length text.new.bytes.items < 2 ^ 32) }
-{
-    text.clear();
-    match put_act(text, event.act()) {
-        Ok(()) => {}
-        Err(_) => return Err(AllocError),
-    }
-    if text.bytes().len() > MOST {
-        return Err(AllocError);
-    }
-    Ok(())
-}
-
 // The entry of this clock, this user and this act, behind what was gathered. An error leaves that as it was.
 fn gather_entry(text: &mut Gathering, clock: i64, user: &[u8], act: &[u8]) -> Result<(), AllocError>
     ensures ok { OnOk result (text.new.bytes.items ≡ text.old.bytes.items ++ (i64 clock ++ (field user.now ++ field act.now))) }
@@ -182,4 +152,20 @@ fn later(a: i64, b: i64) -> i64
     ensures { result ≡ int_max a b }
 {
     if b < a { a } else { b }
+}
+
+// Puts the entry of an event: the clock that it met, its user, and its body.
+#[tactic(auto, using(tab_io::proofs::Putting::putting))]
+fn put_entry<'a, W: Output>(
+    output: &mut W,
+    clock: i64,
+    user: &'a [u8],
+    body: &'a [u8],
+) -> Result<(), WriteFault>
+    ensures { Puts W.Output output.old output.new (i64 clock ++ (field user.now ++ field body.now)) result }
+{
+    put_values(
+        output,
+        &[Value::Signed(clock), Value::Field(user), Value::Field(body)],
+    )
 }

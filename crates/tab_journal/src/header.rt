@@ -9,8 +9,8 @@ ghost use Rattle.tab_journal.specs.declared.seal.Form.TheVariants.{Tagged};
 use crate::format::{Format, kind_of, mark_of};
 use crate::seal::{Form, Seal};
 use crate::sums::header_sum;
-use crate::taking::{take_long, take_signed};
 use std::alloc::{AllocError, Global};
+use tab_codec::{take_long, take_signed};
 
 /// What a journal begins with.
 #[derive(Clone, Copy, Debug, PartialEq, Eq)]

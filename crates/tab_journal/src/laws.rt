@@ -2,6 +2,7 @@
 ghost use Rattle.tab_journal.specs.Laws.{JournalsAreRead, WholeBatchesAreKept, CutsAreBeginnings, EntriesAreRead, TextsHaveForm};
 ghost use Rattle.tab_journal.specs.Crashes.{CrashesLeaveBeginnings};
 ghost use Rattle.tab_journal.specs.Damage.{CrashesLeaveTornEnds, CutsAreTorn, DamageIsTold};
+ghost use Rattle.tab_journal.specs.Outcomes.{OutcomesSuffice};
 ghost use Rattle.tab_journal.specs.Stretches.{GatheredIsLasting};
 
 /// What is read of a journal's bytes is what they say, and bytes that say something are read so.
@@ -52,4 +53,10 @@ pub fn texts_have_form()
 /// What was gathered entry by entry is what is to be kept of all of them, each at the clock that it met.
 pub fn gathered_is_lasting()
     ensures { GatheredIsLasting }
+{}
+
+/// What is kept of an entry hangs on how its event ended alone.
+#[tactic(auto, using(crate::proofs::Outcomes::outcomes_suffice))]
+pub fn outcomes_suffice()
+    ensures { OutcomesSuffice }
 {}

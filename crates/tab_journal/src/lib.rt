@@ -15,21 +15,21 @@
 //! | `header`, `batch` | their texts, and what is read of them |
 //! | `source`, `cursor`, `reader`, `read_error` | a file that was left, and a journal read from it batch by batch |
 //! | `journal_end`, `damage` | where a journal ends, and whether what stands behind that is damaged, or torn |
-//! | `lasting`, `fitting` | which events leave a trace, and which fit into the field of an entry |
-//! | `spelling`, `gathered` | the bytes of an entry, and those of a stretch of a history |
+//! | `lasting`, `gathered` | which events leave a trace, and the bytes of a stretch of a history |
 //! | `entry` | an entry, read |
-//! | `sums`, `taking` | sums, and numbers and fields at the front of some bytes |
+//! | `sums` | the sums of headers and of batches |
 //! | `device`, `memory_device`, `memory` | a file as a journal sees it, and one in memory with the calls that it keeps |
 //! | `writer`, `beginning`, `putting`, `write_error` | a journal that is being written into a device, its header, a batch, and why nothing is put |
 //! | `laws` | reading is exactly the forms, a beginning of a journal says the first of its batches, and what a crash cuts off is torn |
 //! | `writing_tests` | tests of writing |
 //!
-//! In `specs`, `Journals` says what the bytes of a journal are, as relations, `Reading` reads them, `Spelling` has the bytes that are written,
-//! `Laws` the laws, and `Examples` computes examples. `Cursors` and `Readers` say what was read of a file so far. In `proofs`, `Forms` shows that
-//! parts are read exactly, `Whole` that journals are, and what is read of a part of one, and `Taken` what a reader hands out. `Stretches` and
-//! `Gathering` say what is gathered of a history, entry by entry, and `Fitting` which entries have a spelling. `Device` says what calls of a device
-//! do to what a crash may leave, `Crashes` what is read of that, `Damage` when what stands behind that is torn or damaged, `Writing` and `Writers`
-//! what a writer has written, and `Calls` what is known of a file behind given calls.
+//! In `specs`, `Journals` says what the bytes of a journal are, as relations, `Reading` reads them, `Spelling` has the bytes that are
+//! written, `Laws` the laws, and `Examples` computes examples. `Cursors` and `Readers` say what was read of a file so far. In `proofs`,
+//! `Forms` shows that parts are read exactly, `Whole` that journals are, and what is read of a part of one, and `Taken` what a reader hands
+//! out. `Stretches`, `Gathering` and `Outcomes` say what is gathered of a history, entry by entry, and `Bodies` what the first byte of an
+//! event's record says. `Device` says what calls of a device do to what a crash may leave, `Crashes` what is read of that, `Damage` when
+//! what stands behind that is torn or damaged, `Writing` and `Writers` what a writer has written, and `Calls` what is known of a file
+//! behind given calls.
 #![tactic(auto)]
 
 mod batch;
@@ -38,7 +38,6 @@ mod cursor;
 mod damage;
 mod device;
 mod entry;
-mod fitting;
 mod format;
 mod gathered;
 mod header;
@@ -52,9 +51,7 @@ mod read_error;
 mod reader;
 mod seal;
 mod source;
-mod spelling;
 mod sums;
-mod taking;
 mod write_error;
 mod writer;
 #[cfg(test)]
@@ -70,8 +67,8 @@ pub use header::{Header, header_text, take_header};
 pub use journal_end::JournalEnd;
 pub use laws::{
     crashes_leave_beginnings, crashes_leave_torn_ends, cuts_are_beginnings, cuts_are_torn,
-    damage_is_told, entries_are_read, gathered_is_lasting, journals_are_read, texts_have_form,
-    whole_batches_are_kept,
+    damage_is_told, entries_are_read, gathered_is_lasting, journals_are_read, outcomes_suffice,
+    texts_have_form, whole_batches_are_kept,
 };
 pub use memory::MemoryCall;
 pub use memory_device::MemoryDevice;

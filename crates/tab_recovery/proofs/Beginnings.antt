@@ -2,10 +2,10 @@
 use Rattle.std.proofs.Common.{◌≡◌, ℕ, ◌+◌, ◌-◌, ◌≤◌, true, false, List, ◌++◌, length, take, drop, Option, Some, None, option_map, inl, inr, refl, sym, ap, subst, ◌∙◌, append_assoc, take-append-drop, length-append, arith}
 use Rattle.std.specs.Prelude.{unwrap_or}
 use Rattle.std.proofs.lemmas.List.{drop_at, length-take, take_min, take_all}
-use Rattle.tab_parts.specs.Parts.{IsBytes}
-use Rattle.tab_parts.specs.Reading.{◌>>=◌, Reader}
-use Rattle.tab_parts.specs.Exactness.{Exact}
-use Rattle.tab_parts.proofs.Exact.{bytes-drop, bytes-take, some_inj, bind_some}
+use Rattle.tab_codec.specs.Parts.{IsBytes}
+use Rattle.tab_codec.specs.Reading.{◌>>=◌, Reader}
+use Rattle.tab_codec.specs.Exactness.{Exact}
+use Rattle.tab_codec.proofs.Exact.{bytes-drop, bytes-take, some_inj, bind_some}
 use Rattle.tab_journal.specs.Damage.{IsDamaged, read_of}
 use Rattle.tab_journal.specs.Journals.{Header, Batch, IsHeader, IsBatch, IsJournal}
 use Rattle.tab_journal.specs.Laws.{last_sum}

@@ -1,6 +1,6 @@
 -- What crashes leave of a journal that was written is taken up.
 use Rattle.std.proofs.Common.{◌≡◌, ℕ, List, [], take, Option, Some, None, option_map, inl, inr, refl, sym, ap, subst, ◌∙◌}
-use Rattle.tab_parts.proofs.Exact.{some_inj}
+use Rattle.tab_codec.proofs.Exact.{some_inj}
 use Rattle.tab_journal.specs.Crashes.{IsReadFrom}
 use Rattle.tab_journal.specs.Damage.{IsDamaged, read_of, EndsTorn}
 use Rattle.tab_journal.specs.declared.seal.Seal.{Seal}

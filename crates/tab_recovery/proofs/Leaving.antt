@@ -8,7 +8,7 @@ use Rattle.tab_history.specs.declared.event.Event.{Event}
 use Rattle.tab_history.specs.declared.reply.Reply.TheVariants.{Done}
 use Rattle.tab_core.specs.Recording.{entry_of}
 use Rattle.tab_core.specs.Stores.{CoreContents}
-use Rattle.tab_parts.specs.Parts.{IsBytes}
+use Rattle.tab_codec.specs.Parts.{IsBytes}
 use Rattle.tab_journal.specs.Journals.{Batch, AreEntries}
 use Rattle.tab_journal.proofs.Entries.{entries_are_read, from_whole, in_whole, parts_joined}
 use Rattle.tab_journal.proofs.Forms.{entry_long}

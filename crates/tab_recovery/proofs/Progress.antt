@@ -7,7 +7,7 @@ use Rattle.tab_history.specs.declared.event.Event.{Event}
 use Rattle.tab_history.specs.declared.reply.Reply.TheVariants.{Done}
 use Rattle.tab_core.specs.Stores.{CoreContents}
 use Rattle.tab_core.specs.Recording.{entry_of}
-use Rattle.tab_parts.specs.Parts.{IsBytes}
+use Rattle.tab_codec.specs.Parts.{IsBytes}
 use Rattle.tab_journal.specs.Reading.{entries_from}
 use Rattle.tab_journal.proofs.Entries.{nothing_there, from_more, from_none, in_whole, in_part}
 use Rattle.tab_recovery.specs.declared.fault.ReplayFault.{ReplayFault}

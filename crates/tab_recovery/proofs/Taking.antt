@@ -1,7 +1,7 @@
 -- What is left where a journal is taken up.
 use Rattle.std.proofs.Common.{◌≡◌, ℕ, List, length, take, refl, sym, ap, subst, ◌∙◌, arith}
 use Rattle.std.proofs.lemmas.List.{take_all}
-use Rattle.tab_parts.specs.Parts.{IsBytes}
+use Rattle.tab_codec.specs.Parts.{IsBytes}
 use Rattle.tab_journal.specs.Device.{Only}
 use Rattle.tab_recovery.specs.Cutting.{Cut}
 use Rattle.tab_recovery.specs.TakingUp.{end_of, KeepsAll}

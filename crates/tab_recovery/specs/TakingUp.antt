@@ -1,7 +1,7 @@
 -- To be believed by whoever relies on it. What is left where a journal is taken up that a crash left, and what another crash leaves of that.
 use Rattle.std.specs.Prelude.{ℕ, ◌≡◌, ◌⊎◌, ◌<◌, ◌≤◌, List, [], length, take, Option, Some, None, option_map, unwrap_or}
 use Rattle.std.specs.declared.io.Error.{Error}
-use Rattle.tab_parts.specs.Parts.{IsBytes}
+use Rattle.tab_codec.specs.Parts.{IsBytes}
 use Rattle.tab_journal.specs.Crashes.{HasFirst, NoneByChance, IsReadFrom}
 use Rattle.tab_journal.specs.Damage.{IsDamaged, read_of, NoneLaterByChance}
 use Rattle.tab_journal.specs.declared.seal.Seal.{Seal}

@@ -1,6 +1,6 @@
 //! What stands in a journal that was left: its entries, done again, or its text.
 ghost use Rattle.std.specs.Prelude.{◌≡◌, [], true, IfOk, OnOk};
-ghost use Rattle.tab_parts.specs.Parts.{IsBytes};
+ghost use Rattle.tab_codec.specs.Parts.{IsBytes};
 ghost use Rattle.tab_journal.specs.Readers.{HasRead, Ends};
 ghost use Rattle.tab_recovery.specs.Leaving.{IsReplayed, HasText};
 

@@ -1,6 +1,6 @@
 use Rattle.std.proofs.Common.{rules, ◌≡◌, ℕ, List, Option, Some, Bor, IfOk, to_z, of_z, w64, option_map, subst, ◌∙◌}
 use Rattle.tab_history.specs.declared.event.Event.{Event}
-use Rattle.tab_journal.proofs.Asked.{at_moment, entry_by_parts}
+use Rattle.tab_journal.proofs.EntryParts.{at_moment, entry_by_parts}
 use Rattle.tab_journal.proofs.entry.next_entry.Goals as goal
 
 pub returns-in-Some : goal.returns-in-Some

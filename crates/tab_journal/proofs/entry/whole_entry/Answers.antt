@@ -1,7 +1,7 @@
 use Rattle.std.proofs.Common.{rules, ◌≡◌, ℕ, ℤ, List, Option, Some, Bor, IfOk, to_z, of_z, w64, option_map, subst, ap, ◌∙◌}
 use Rattle.tab_history.specs.declared.event.Event.{Event}
 use Rattle.tab_journal.specs.Reading.{entry_of}
-use Rattle.tab_journal.proofs.Asked.{by_name}
+use Rattle.tab_journal.proofs.EntryParts.{by_name}
 use Rattle.tab_journal.proofs.entry.whole_entry.Goals as goal
 
 pub returns-in-Some : goal.returns-in-Some

@@ -1,6 +1,6 @@
 use Rattle.std.proofs.Common.{rules, ◌≡◌, ◌-◌, ◌<◌, ◌^◌, length, refl, sym, subst, arith}
 use Rattle.std.specs.Prelude.{vec_len}
-use Rattle.tab_parts.specs.Parts.{IsBytes}
+use Rattle.tab_codec.specs.Parts.{IsBytes}
 use Rattle.tab_journal.specs.Said.{header_in}
 use Rattle.tab_journal.proofs.Taken.{header_here, begins}
 use Rattle.tab_journal.proofs.cursor.Cursor.begin.Goals as goal

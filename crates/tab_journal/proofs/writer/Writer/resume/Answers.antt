@@ -1,5 +1,5 @@
 use Rattle.std.proofs.Common.{rules, ◌≡◌, ℕ, true, length, sym, subst, ◌∙◌, arith}
-use Rattle.tab_parts.proofs.Exact.{some_inj}
+use Rattle.tab_codec.proofs.Exact.{some_inj}
 use Rattle.tab_journal.specs.Reading.{Journal}
 use Rattle.tab_journal.specs.Writing.{KeepFirst, IsWritten}
 use Rattle.tab_journal.proofs.Appending.{only_keeps}
