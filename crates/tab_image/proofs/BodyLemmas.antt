@@ -1,7 +1,7 @@
 -- What stands behind the version, read part by part.
 use Rattle.std.proofs.Common.{ℕ, ℤ, List}
 use Rattle.tab_io.specs.declared.reading.Input.{Ghosts}
-use Rattle.tab_parts.specs.Reading.{u64_at, i64_at}
+use Rattle.tab_codec.specs.Reading.{u64_at, i64_at}
 use Rattle.tab_image.specs.declared.table.ImageTable.{ImageTable}
 use Rattle.tab_image.specs.declared.user.ImageUser.{ImageUser}
 use Rattle.tab_image.specs.Reading.{users_at, tables_at, mark_at, body_at}

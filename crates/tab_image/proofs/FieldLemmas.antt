@@ -10,8 +10,8 @@ use Rattle.tab_rules.specs.declared.constraint.Constraint.{Constraint}
 use Rattle.tab_history.specs.Settings.{is_version_count, least}
 use Rattle.tab_history.specs.declared.event.TimeMode.{TimeMode}
 use Rattle.tab_io.specs.declared.reading.Input.{Ghosts}
-use Rattle.tab_parts.specs.Parts.{system_in, constraints_in}
-use Rattle.tab_parts.specs.Reading.{◌>>=◌, bytes_at, only_if, is_name, u8_at, u32_at, i64_at, field_at, name_at, kind_of, kind_at, time_of, time_at, versions_at, constraints_of, constraints_at}
+use Rattle.tab_codec.specs.Parts.{system_in, constraints_in}
+use Rattle.tab_codec.specs.Reading.{◌>>=◌, bytes_at, only_if, is_name, u8_at, u32_at, i64_at, field_at, name_at, kind_of, kind_at, time_of, time_at, versions_at, constraints_of, constraints_at}
 use Rattle.tab_image.specs.declared.unread.Unread.{Unread}
 use Rattle.tab_image.specs.declared.unread.Unread.TheVariants as unread
 use Rattle.tab_image.specs.Reading.{made, picked_by, part_at, system_of, system_at, horizon_at}
@@ -21,7 +21,7 @@ use Rattle.tab_image.proofs.Streams.{read_pick, stops_pick, stops_picked, read_m
 use Rattle.tab_image.proofs.NumberLemmas.{field_read, field_first, field_second}
 use Rattle.tab_image.proofs.TextLemmas.{text_split}
 use Rattle.tab_image.proofs.SaneLaw.{short_decides}
-use Rattle.tab_parts.proofs.PartLaw.{only_passes}
+use Rattle.tab_codec.proofs.PartLaw.{only_passes}
 
 -- ---- a length, and so many bytes within the limit
 short_picks : (t : List ℕ) → length t ≤ MAX_PART_LEN → only_if is_short t ≡ Some t

@@ -5,12 +5,12 @@ use Rattle.std.specs.Io.KnownBytes.{Consumes}
 use Rattle.tab_key.specs.Records.{Record}
 use Rattle.tab_key.specs.declared.key.Kind.{Kind}
 use Rattle.tab_io.specs.declared.reading.Input.{Ghosts}
-use Rattle.tab_parts.specs.Parts.{IsBytes}
-use Rattle.tab_parts.specs.Reading.{u32_at, u64_at, i64_at, kind_at}
+use Rattle.tab_codec.specs.Parts.{IsBytes}
+use Rattle.tab_codec.specs.Reading.{u32_at, u64_at, i64_at, kind_at}
 use Rattle.tab_image.specs.Laying.{Begins}
 use Rattle.tab_image.specs.Reading.{◌>>=◌, made, part_at, record_at}
 use Rattle.tab_image.specs.Streams.{Leaves, HasRead}
-use Rattle.tab_image.proofs.PartLaw.{exact_record}
+use Rattle.tab_image.proofs.ImageCode.{coded_record}
 use Rattle.tab_image.proofs.RecordLemmas.{record_of}
 
 -- its parts, one behind another
@@ -24,8 +24,8 @@ parts_whole b0 b1 b2 b3 b4 b5 b6 b7 b8 b9 ro f q l t k s i v p0 p1 p2 p3 p4 p5 p
 -- what is read at the front is read there whatever follows it
 pub begins : (bytes rest : List ℕ) (r : Record) → IsBytes bytes → record_at bytes ≡ Some (r, rest) → Begins bytes r rest
 begins bytes rest r fits is =
-    let t = exact_record.sound bytes r rest fits is in
-    record { text = t.front; whole = t.parts; read = λ more. exact_record.complete t.front more r t.says }
+    let t = coded_record.sound bytes r rest fits is in
+    record { text = t.front; whole = t.parts; read = λ more. coded_record.complete t.front more r t.says }
 
 module _ (front rest : List ℕ) (r : Record) (b : Begins front r rest) where
   pub rest_shorter : length rest ≤ length front

@@ -1,20 +1,28 @@
--- Reading gives exactly the image that the bytes spell, and tells exactly the versions that aren't known.
-use Rattle.std.proofs.Common.{◌≡◌, ℕ, ◌^◌, ◌<◌, ◌==◌, Bool, true, false, cond, List, ◌++◌, take, drop, Option, Some, None, refl, sym, ap, subst, ◌∙◌, arith, inl, inr}
-use Rattle.std.specs.Prelude.{◌≢◌, ◌||◌, bytes_eq, Result, Ok, Err}
+-- Reading gives exactly the image that the bytes spell, in its one spelling, and tells exactly the versions that aren't known.
+use Rattle.std.proofs.Common.{◌≡◌, ℕ, ◌^◌, ◌<◌, ◌≤◌, ◌==◌, Bool, true, false, cond, List, [], ◌∷◌, ◌++◌, length, take, drop, Option, Some, None, refl, sym, ap, subst, ◌∙◌, arith, append_assoc, inl, inr}
+use Rattle.std.specs.Prelude.{◌≢◌, ◌||◌, nat_lt, bytes_eq, Result, Ok, Err}
 use Rattle.std.specs.Int.{w16, to_be_bytes}
+use Rattle.std.specs.List.{AllByRecursion}
 use Rattle.std.proofs.lemmas.Bool.{eqb-true}
+use Rattle.std.proofs.lemmas.Bool.Decides.{nat_tests}
 use Rattle.std.proofs.lemmas.List.{take-append-drop}
 use Rattle.std.proofs.lemmas.Slice.Eq.{bytes_eq-Decides}
-use Rattle.tab_parts.specs.Parts.{IsBytes}
-use Rattle.tab_parts.specs.Reading.{u16_at, whole}
-use Rattle.tab_parts.proofs.Exact.{bytes-drop, exact_u16, whole_sound, whole_complete}
+use Rattle.tab_label.specs.Sets.{has_longer}
+use Rattle.tab_history.specs.Checks.{too_many_auths}
+use Rattle.tab_codec.specs.Parts.{IsBytes}
+use Rattle.tab_codec.specs.Reading.{u16_at, whole}
+use Rattle.tab_codec.specs.Spelling.{Spells}
+use Rattle.tab_codec.proofs.Exact.{bytes-drop, exact_u16, whole_sound, whole_complete}
 use Rattle.tab_image.specs.declared.fault.ImageFault.{ImageFault}
 use Rattle.tab_image.specs.declared.fault.ImageFault.TheVariants as fault
+use Rattle.tab_image.specs.declared.user.ImageUser.{ImageUser}
 use Rattle.tab_image.specs.declared.image.Image.{Image}
-use Rattle.tab_image.specs.Images.{IsKnown, IsBody, IsSane, IsImage, magic}
+use Rattle.tab_image.specs.Images.{IsKnown, FitsUser, Fits, IsSaneUser, IsSane, IsImage, magic}
 use Rattle.tab_image.specs.Conditions.{is_sane}
 use Rattle.tab_image.specs.Reading.{is_known, body_at, if_sane, versioned, image_of, ImagesAreRead, VersionsAreTold}
-use Rattle.tab_image.proofs.PartLaw.{exact_body}
+use Rattle.tab_image.specs.Spelling.{u16, u64, i64, counted, user_bytes, table_bytes, magic_bytes, front_bytes, end_bytes, image_bytes}
+use Rattle.tab_image.specs.Written.{OneSpelling, WhatFitsIsSpelled}
+use Rattle.tab_image.proofs.ImageCode.{SpellsUser, SpellsBody, body_bytes, coded_body}
 use Rattle.tab_image.proofs.SaneLaw.{sane_decides}
 
 abbrev Read : Type 0
@@ -71,11 +79,47 @@ sane_tells : (read : Option Image) (n : ℕ) → if_sane read ≡ Err (fault.Ver
 sane_tells None n is = absurd cc
 sane_tells (Some j) n is = elim (is_sane j) as (λ b. cond b (Ok j) (Err fault.Bad) ≡ Err (fault.Version n) → ⊥) [ true ↦ λ e. absurd cc | false ↦ λ e. absurd cc ] is
 
-body_sound : (version : ℕ) (bytes : List ℕ) (i : Image) → IsBytes bytes → if_sane (whole (body_at version bytes)) ≡ Ok i → IsBody version bytes i × IsSane i
-body_sound version bytes i fits is = let h = sane_sound (whole (body_at version bytes)) i is in (whole_sound (body_at version) (IsBody version) (exact_body version) bytes i fits h.0, h.1)
+-- ---- what fits the types of the code, and of which the conditions hold, has a spelling
+second : (a b : Bool) → (a || b) ≡ false → b ≡ false
+second true b h = absurd cc
+second false b h = h
 
-body_complete : (version : ℕ) (bytes : List ℕ) (i : Image) → IsBody version bytes i → IsSane i → if_sane (whole (body_at version bytes)) ≡ Ok i
-body_complete version bytes i parts sane = ap if_sane (whole_complete (body_at version) (IsBody version) (exact_body version) bytes i parts) ∙ ap (λ b. cond b (Ok i) (Err fault.Bad)) ((sane_decides i).1 sane)
+short_terms : (terms : List (List ℕ)) → has_longer terms 1024 ≡ false → AllByRecursion (λ t. length t < 2 ^ 32) terms
+short_terms [] h = tt
+short_terms (t ∷ ts) h = let le : length t ≤ 1024 = grind (arith, nat_tests) in (omega (arith, le), short_terms ts (second (nat_lt 1024 (length t)) (has_longer ts 1024) h))
+
+few_terms : (terms : List (List ℕ)) → too_many_auths terms ≡ false → length terms ≤ 1024
+few_terms terms few = grind (arith, nat_tests)
+
+user_spells : (u : ImageUser) → FitsUser u → IsSaneUser u → SpellsUser u
+user_spells u fits sane =
+    let terms = u.authorizations in
+    let le : length u.authorizations ≤ 1024 = few_terms u.authorizations sane.few in
+    (fits, (omega (arith, le), short_terms terms (second (nat_lt 1024 (length terms)) (has_longer terms 1024) sane.few)))
+
+users_spell : (us : List ImageUser) → AllByRecursion FitsUser us → AllByRecursion IsSaneUser us → AllByRecursion SpellsUser us
+users_spell [] fits sane = tt
+users_spell (u ∷ us) fits sane = (user_spells u fits.0 sane.0, users_spell us fits.1 sane.1)
+
+users_fit : (us : List ImageUser) → AllByRecursion SpellsUser us → AllByRecursion FitsUser us
+users_fit [] spell = tt
+users_fit (u ∷ us) spell = (spell.0.0, users_fit us spell.1)
+
+body_spells : (version : ℕ) (i : Image) → Fits version i → IsSane i → SpellsBody version i
+body_spells version i f sane = record { clock = f.clock; next = f.next; users = (f.users_few, users_spell i.users f.users sane.each_user); tables = (f.tables_few, f.tables) }
+
+body_fits : (version : ℕ) (i : Image) → SpellsBody version i → Fits version i
+body_fits version i s = record { clock = s.clock; next = s.next; users = users_fit i.users s.users.1; users_few = s.users.0; tables = s.tables.1; tables_few = s.tables.0 }
+
+body_sound : (version : ℕ) (bytes : List ℕ) (i : Image) → IsBytes bytes → if_sane (whole (body_at version bytes)) ≡ Ok i → Spells (body_bytes version) (SpellsBody version) bytes i × IsSane i
+body_sound version bytes i fits is =
+    let h = sane_sound (whole (body_at version bytes)) i is in
+    (whole_sound (body_at version) (Spells (body_bytes version) (SpellsBody version)) (coded_body version) bytes i fits h.0, h.1)
+
+body_complete : (version : ℕ) (i : Image) → Fits version i → IsSane i → if_sane (whole (body_at version (body_bytes version i))) ≡ Ok i
+body_complete version i fits sane =
+    ap if_sane (whole_complete (body_at version) (Spells (body_bytes version) (SpellsBody version)) (coded_body version) (body_bytes version i) i (refl, body_spells version i fits sane))
+    ∙ ap (λ b. cond b (Ok i) (Err fault.Bad)) ((sane_decides i).1 sane)
 
 -- ---- the head
 -- bytes that begin with the six, and then a number
@@ -88,6 +132,14 @@ head_read : (n : ℕ) (body : List ℕ) → n < 2 ^ 16 → image_of (magic ++ (t
 unfolding image_of
 head_read n body lt = ap versioned (exact_u16.complete (to_be_bytes w16 n) body n (refl, lt))
 
+-- the bytes of an image, as they are read
+front_joined : (m w s e rest : List ℕ) → (m ++ (w ++ (s ++ e))) ++ rest ≡ m ++ (w ++ (s ++ (e ++ rest)))
+front_joined m w s e rest = append_assoc m (w ++ (s ++ e)) rest ∙ ap (λ (z : List ℕ). m ++ z) (append_assoc w (s ++ e) rest ∙ ap (λ (z : List ℕ). w ++ z) (append_assoc s e rest))
+
+image_is : (version : ℕ) (i : Image) → image_bytes version i ≡ magic ++ (to_be_bytes w16 version ++ body_bytes version i)
+unfolding image_bytes front_bytes magic_bytes u16
+image_is version i = front_joined magic (to_be_bytes w16 version) (i64 i.clock) (u64 i.next) (counted user_bytes i.users ++ (counted (table_bytes version) i.tables ++ end_bytes))
+
 -- ---- images
 module _ (bytes : List ℕ) (i : Image) (fits : IsBytes bytes) where
   abbrev InSome : Type 0
@@ -97,7 +149,9 @@ module _ (bytes : List ℕ) (i : Image) (fits : IsBytes bytes) where
   behind_sound v same read is =
       let h = headed bytes v fits same read in
       elim (is_known v.0) as (λ b. is_known v.0 ≡ b → cond b (if_sane (whole (body_at v.0 v.1))) (Err (fault.Version v.0)) ≡ Ok i → InSome) [
-        | true ↦ λ known e. let p = body_sound v.0 v.1 i h.1 e in (v.0, record { known = known_sound v.0 known; body = v.1; spelled = h.0; parts = p.0; sane = p.1 })
+        | true ↦ λ known e.
+            let p = body_sound v.0 v.1 i h.1 e in
+            (v.0, record { known = known_sound v.0 known; spelled = h.0 ∙ ap (λ (z : List ℕ). magic ++ (to_be_bytes w16 v.0 ++ z)) p.0.0 ∙ sym (image_is v.0 i); fits = body_fits v.0 i p.0.1; sane = p.1 })
         | false ↦ λ other e. absurd cc
       ] refl is
 
@@ -119,9 +173,9 @@ few n (inr second) = omega (arith, second)
 
 image_complete : (version : ℕ) (bytes : List ℕ) (i : Image) → IsImage version bytes i → image_of bytes ≡ Ok i
 image_complete version bytes i is =
-    ap image_of is.spelled ∙ head_read version is.body (few version is.known)
-    ∙ ap (λ b. cond b (if_sane (whole (body_at version is.body))) (Err (fault.Version version))) (known_complete version is.known)
-    ∙ body_complete version is.body i is.parts is.sane
+    ap image_of (is.spelled ∙ image_is version i) ∙ head_read version (body_bytes version i) (few version is.known)
+    ∙ ap (λ b. cond b (if_sane (whole (body_at version (body_bytes version i)))) (Err (fault.Version version))) (known_complete version is.known)
+    ∙ body_complete version i is.fits is.sane
 
 pub images_are_read : ImagesAreRead
 images_are_read bytes i fits = (image_sound bytes i fits, λ is. image_complete is.0 bytes i is.1)
@@ -158,3 +212,10 @@ module _ (bytes : List ℕ) (n : ℕ) (fits : IsBytes bytes) where
 
 pub versions_are_told : VersionsAreTold
 versions_are_told bytes n fits = (version_sound bytes n fits, version_complete bytes n fits)
+
+-- ---- spellings
+pub one_spelling : OneSpelling
+one_spelling version bytes i is = is.spelled
+
+pub what_fits_is_spelled : WhatFitsIsSpelled
+what_fits_is_spelled i fits sane = record { known = inr refl; spelled = refl; fits = fits; sane = sane }

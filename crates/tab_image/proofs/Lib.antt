@@ -4,9 +4,8 @@ pub mod TextLemmas
 pub mod NumberLemmas
 pub mod UserSearch
 pub mod SaneLaw
-pub mod PartLaw
+pub mod ImageCode
 pub mod ImageLaw
-pub mod SpellingLaw
 pub mod WritingLemmas
 pub mod FieldLemmas
 pub mod SetLemmas
@@ -16,4 +15,3 @@ pub mod FrontLemmas
 pub mod SaneLemmas
 pub mod LoadLemmas
 pub mod BodyLemmas
-pub mod WrittenLaw

@@ -7,9 +7,9 @@ use Rattle.std.proofs.lemmas.List.{length-take}
 use Rattle.std.proofs.lemmas.Slice.Eq.{bytes_eq-Decides}
 use Rattle.tab_io.specs.Streams.{IsEnd, BeginsWith}
 use Rattle.tab_io.specs.declared.reading.Input.{Ghosts}
-use Rattle.tab_parts.specs.Reading as parts
-use Rattle.tab_parts.proofs.Exact.{some_inj}
-use Rattle.tab_parts.specs.Reading.{Reader, only_if, whole, bytes_at, u16_at}
+use Rattle.tab_codec.specs.Reading as parts
+use Rattle.tab_codec.proofs.Exact.{some_inj}
+use Rattle.tab_codec.specs.Reading.{Reader, only_if, whole, bytes_at, u16_at}
 use Rattle.tab_image.specs.declared.fault.ImageFault.{ImageFault}
 use Rattle.tab_image.specs.declared.fault.ImageFault.TheVariants as fault
 use Rattle.tab_image.specs.declared.fault.LoadFault.{LoadFault}

@@ -6,7 +6,7 @@ use Rattle.std.proofs.lemmas.List.{length-take}
 use Rattle.std.proofs.KnownBytes.{Consumes-nil}
 use Rattle.std.specs.Prelude.{Result, Ok, Err}
 use Rattle.tab_io.specs.declared.reading.Input.{Ghosts}
-use Rattle.tab_parts.specs.Reading.{u8_at, u16_at, u32_at, u64_at, i64_at, field_at}
+use Rattle.tab_codec.specs.Reading.{u8_at, u16_at, u32_at, u64_at, i64_at, field_at}
 use Rattle.tab_image.specs.declared.unread.Unread.{Unread}
 use Rattle.tab_image.specs.Reading.{◌>>=◌, made}
 use Rattle.tab_image.specs.Streams.{HasRead, Stops, Appended, text_of}

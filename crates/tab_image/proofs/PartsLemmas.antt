@@ -1,8 +1,8 @@
 -- Parts read one after another, as a loop reads them.
 use Rattle.std.proofs.Common.{◌≡◌, ℕ, zero, suc, ◌+◌, ◌<◌, List, [], ◌∷◌, ◌++◌, refl, sym, ap, subst, ◌∙◌, arith, Option, Some, None}
 use Rattle.tab_io.specs.declared.reading.Input.{Ghosts}
-use Rattle.tab_parts.specs.Reading.{◌>>=◌, Reader, parts_at}
-use Rattle.tab_parts.proofs.Exact.{some_inj, bind_some, on_bind}
+use Rattle.tab_codec.specs.Reading.{◌>>=◌, Reader, parts_at}
+use Rattle.tab_codec.proofs.Exact.{some_inj, bind_some, on_bind}
 use Rattle.tab_image.specs.declared.unread.Unread.{Unread}
 use Rattle.tab_image.specs.declared.unread.Unread.TheVariants as unread
 use Rattle.tab_image.specs.Streams.{Leaves, Lacks, HasRead, Stops}

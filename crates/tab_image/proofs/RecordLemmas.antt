@@ -8,7 +8,7 @@ use Rattle.tab_key.specs.declared.limited_part.TheConstants.{MAX_PART_LEN}
 use Rattle.tab_key.specs.declared.record_span.RecordSpan.{RecordSpan}
 use Rattle.tab_key.proofs.Packed.{LaysOut, laid_within, laid_record}
 use Rattle.tab_io.specs.declared.reading.Input.{Ghosts}
-use Rattle.tab_parts.specs.Reading.{u32_at, u64_at, i64_at, kind_at}
+use Rattle.tab_codec.specs.Reading.{u32_at, u64_at, i64_at, kind_at}
 use Rattle.tab_image.specs.declared.unread.Unread.{Unread}
 use Rattle.tab_image.specs.Reading.{part_at, record_at}
 use Rattle.tab_image.specs.Streams.{HasRead, Stops, Appended}

@@ -15,7 +15,7 @@ use Rattle.tab_policy.specs.declared.sets.TablePermissions.{TablePermissions}
 use Rattle.tab_policy.specs.Permissions.{same_system, same_table}
 use Rattle.tab_policy.specs.Sets.{system_contains, table_contains}
 use Rattle.tab_rules.specs.Constraints.{constraint_set_of}
-use Rattle.tab_parts.specs.Parts.{constraints_in}
+use Rattle.tab_codec.specs.Parts.{constraints_in}
 
 -- one set is the other with this member, or without it
 abbrev pub SystemStep : SystemPermission → Bool → SystemPermissions → SystemPermissions → Type 0

@@ -1,8 +1,8 @@
 -- Parts read from an input one after another.
 use Rattle.std.proofs.Common.{◌≡◌, ℕ, ◌<◌, List, refl, sym, ap, subst, ◌∙◌, Option, Some, None, inl, inr}
 use Rattle.tab_io.specs.declared.reading.Input.{Ghosts}
-use Rattle.tab_parts.specs.Reading.{Reader}
-use Rattle.tab_parts.proofs.Exact.{some_inj, bind_some}
+use Rattle.tab_codec.specs.Reading.{Reader}
+use Rattle.tab_codec.proofs.Exact.{some_inj, bind_some}
 use Rattle.tab_image.specs.declared.unread.Unread.{Unread}
 use Rattle.tab_image.specs.declared.unread.Unread.TheVariants as unread
 use Rattle.tab_image.specs.Reading.{◌>>=◌, made, picked_by}

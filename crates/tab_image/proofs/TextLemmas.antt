@@ -8,8 +8,8 @@ use Rattle.std.proofs.lemmas.Bool.Decides.{nat_tests}
 use Rattle.std.proofs.lemmas.List.{take-append-drop, length-append, length-take}
 use Rattle.tab_io.specs.Streams.{IsEnd}
 use Rattle.tab_io.specs.declared.reading.Input.{Ghosts}
-use Rattle.tab_parts.specs.Reading.{mapped, bytes_at, number_at, u8_at}
-use Rattle.tab_parts.proofs.Exact.{some_inj, on_guard, exact_bytes}
+use Rattle.tab_codec.specs.Reading.{mapped, bytes_at, number_at, u8_at}
+use Rattle.tab_codec.proofs.Exact.{some_inj, on_guard, exact_bytes}
 use Rattle.tab_image.specs.declared.unread.Unread.{Unread}
 use Rattle.tab_image.specs.declared.unread.Unread.TheVariants as unread
 use Rattle.tab_image.specs.Streams.{Leaves, Lacks, HasRead, Stops, text_of}

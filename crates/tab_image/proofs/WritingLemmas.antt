@@ -7,12 +7,12 @@ use Rattle.tab_io.specs.Writing.{HasPut, HasPutPart}
 use Rattle.tab_io.specs.declared.writing.Output.{Ghosts}
 use Rattle.tab_io.proofs.Putting.{put_part_more, part_longer}
 use Rattle.tab_label.specs.Sets.{byte_lists}
-use Rattle.tab_image.specs.Spelling.{field_bytes}
+use Rattle.tab_image.specs.Spelling.{field}
 
 -- the texts of vectors are those of their bytes
-pub each_field : (vs : List (Vec ℕ Global)) → flat_map (λ (v : Vec ℕ Global). field_bytes v.items) vs ≡ flat_map field_bytes (byte_lists vs)
+pub each_field : (vs : List (Vec ℕ Global)) → flat_map (λ (v : Vec ℕ Global). field v.items) vs ≡ flat_map field (byte_lists vs)
 each_field [] = refl
-each_field (v ∷ vs) = ap (λ (z : List ℕ). field_bytes v.items ++ z) (each_field vs)
+each_field (v ∷ vs) = ap (λ (z : List ℕ). field v.items ++ z) (each_field vs)
 
 module _ {W : Type 0} (g : Ghosts W) where
   -- the second of several texts fails, the third, the fourth

@@ -10,9 +10,9 @@ use Rattle.tab_policy.specs.declared.sets.TablePermissions.{TablePermissions}
 use Rattle.tab_rules.specs.declared.constraint.Constraint.TheVariants.{Numeric, Visibility}
 use Rattle.tab_history.specs.Settings.{least}
 use Rattle.tab_history.specs.declared.event.TimeMode.TheVariants.{Any, Server}
-use Rattle.tab_parts.specs.Reading.{u16_at, u32_at, u64_at, i64_at, field_at, name_at, kind_at, time_at, versions_at, constraints_at}
+use Rattle.tab_codec.specs.Reading.{u16_at, u32_at, u64_at, i64_at, field_at, name_at, kind_at, time_at, versions_at, constraints_at}
 use Rattle.tab_image.specs.Images.{written_version}
-use Rattle.tab_image.specs.Spelling.{one_byte, two_bytes, four_bytes, eight_bytes, signed_bytes, field_bytes, list_bytes, user_bytes, right_bytes, horizon_bytes, settings_bytes, head_bytes, record_bytes, records_bytes, table_bytes, magic_bytes, front_bytes, end_bytes, image_bytes}
+use Rattle.tab_image.specs.Spelling.{u16, u32, u64, i64, user_bytes, right_bytes, horizon_bytes, settings_bytes, head_bytes, record_bytes, records_bytes, table_bytes, magic_bytes, front_bytes, end_bytes, image_bytes}
 use Rattle.tab_image.specs.declared.fault.ImageFault.{ImageFault}
 use Rattle.tab_image.specs.declared.fault.ImageFault.TheVariants as fault
 use Rattle.tab_image.specs.declared.image.Image.{Image}
@@ -33,7 +33,7 @@ hex text = hex_from None text
 
 -- names what the examples look into
 everything : ℕ
-unfolding u16_at u32_at u64_at i64_at field_at name_at kind_at time_at versions_at constraints_at ◌>>=◌ made picked_by all_at part_at ends_at mark_at system_at held_at texts_at set_at user_at users_at right_at rights_at record_at records_at horizon_at head_at table_at tables_at body_at image_of column_cmp key_cmp place_cmp newer_cmp is_term_byte step ending reads_on label_of one_byte two_bytes four_bytes eight_bytes signed_bytes field_bytes list_bytes user_bytes right_bytes horizon_bytes settings_bytes head_bytes record_bytes records_bytes table_bytes magic_bytes front_bytes end_bytes image_bytes
+unfolding u16_at u32_at u64_at i64_at field_at name_at kind_at time_at versions_at constraints_at ◌>>=◌ made picked_by all_at part_at ends_at mark_at system_at held_at texts_at set_at user_at users_at right_at rights_at record_at records_at horizon_at head_at table_at tables_at body_at image_of column_cmp key_cmp place_cmp newer_cmp is_term_byte step ending reads_on label_of u16 u32 u64 i64 user_bytes right_bytes horizon_bytes settings_bytes head_bytes record_bytes records_bytes table_bytes magic_bytes front_bytes end_bytes image_bytes
 everything = 0
 
 -- ---- a new core

@@ -1,7 +1,7 @@
 -- For proofs. What reading a whole image from an input does.
 use Rattle.std.specs.Prelude.{ℕ, ◌≡◌, List, [], ◌∷◌, Option, Some, None, Result, Ok, Err, ⊤}
 use Rattle.tab_io.specs.declared.reading.Input.{Ghosts}
-use Rattle.tab_parts.specs.Reading.{Reader, only_if, bytes_at, u16_at}
+use Rattle.tab_codec.specs.Reading.{Reader, only_if, bytes_at, u16_at}
 use Rattle.tab_image.specs.declared.fault.ImageFault.{ImageFault}
 use Rattle.tab_image.specs.declared.fault.ImageFault.TheVariants as fault
 use Rattle.tab_image.specs.declared.fault.LoadFault.{LoadFault}

@@ -5,8 +5,8 @@ use Rattle.tab_key.specs.Records.{Record}
 use Rattle.tab_policy.specs.declared.sets.SystemPermissions.{SystemPermissions}
 use Rattle.tab_policy.specs.declared.sets.TablePermissions.{TablePermissions}
 use Rattle.tab_history.specs.Settings.{least}
-use Rattle.tab_parts.specs.Parts.{IsBytes, system_in, table_in}
-use Rattle.tab_parts.specs.Reading.{Reader, and_then, picked, whole, u8_at, u16_at, u32_at, u64_at, i64_at, bytes_at, field_at, name_at, parts_at, only_if, kind_at, time_at, versions_at, constraints_at}
+use Rattle.tab_codec.specs.Parts.{IsBytes, system_in, table_in}
+use Rattle.tab_codec.specs.Reading.{Reader, and_then, picked, whole, u8_at, u16_at, u32_at, u64_at, i64_at, bytes_at, field_at, name_at, parts_at, only_if, kind_at, time_at, versions_at, constraints_at}
 use Rattle.tab_image.specs.declared.fault.ImageFault.{ImageFault}
 use Rattle.tab_image.specs.declared.fault.ImageFault.TheVariants as fault
 use Rattle.tab_image.specs.declared.user.ImageUser.{ImageUser}

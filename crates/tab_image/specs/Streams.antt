@@ -3,7 +3,7 @@ use Rattle.std.specs.Prelude.{ℕ, ◌≡◌, ◌<◌, ◌⊎◌, List, ◌++◌
 use Rattle.std.specs.declared.alloc.Global.{Global}
 use Rattle.tab_label.specs.Sets.{byte_lists}
 use Rattle.tab_io.specs.declared.reading.Input.{Ghosts}
-use Rattle.tab_parts.specs.Reading.{Reader, bytes_at}
+use Rattle.tab_codec.specs.Reading.{Reader, bytes_at}
 use Rattle.tab_image.specs.declared.unread.Unread.{Unread}
 use Rattle.tab_image.specs.declared.unread.Unread.TheVariants as unread
 

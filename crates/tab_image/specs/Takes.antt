@@ -3,7 +3,7 @@ use Rattle.std.specs.Prelude.{ℕ, ◌≡◌, ◌<◌, ◌≤◌, Bool, true, fa
 use Rattle.std.specs.Io.KnownBytes.{Keeps}
 use Rattle.tab_io.specs.Streams.{IsEnd, BeginsWith}
 use Rattle.tab_io.specs.declared.reading.Input.{Ghosts}
-use Rattle.tab_parts.specs.Reading.{Reader}
+use Rattle.tab_codec.specs.Reading.{Reader}
 use Rattle.tab_image.specs.declared.unread.Unread.{Unread}
 use Rattle.tab_image.specs.Streams.{ReadFailed, Stops, Appended, text_of}
 

@@ -7,13 +7,13 @@ ghost use Rattle.tab_history.specs.Settings.{is_version_count};
 ghost use Rattle.tab_image.specs.Reading.{part_at, system_at, held_at, held_of, horizon_at};
 ghost use Rattle.tab_image.specs.Takes.{Appends};
 ghost use Rattle.tab_image.specs.Streams.{Reads, HasRead, Stops, items_of};
-ghost use Rattle.tab_parts.specs.Reading.{only_if, is_name, field_at, name_at, kind_of, kind_at, time_of, time_at, versions_at, constraints_at, constraints_of};
+ghost use Rattle.tab_codec.specs.Reading.{only_if, is_name, field_at, name_at, kind_of, kind_at, time_of, time_at, versions_at, constraints_at, constraints_of};
 
-use crate::bits::{constraints_in, system_in, table_in};
 use crate::taking::{read_byte, read_i64, read_text, read_u32};
 use crate::unread::Unread;
 use crate::version::FIRST_VERSION;
 use std::alloc::{AllocError, Global};
+use tab_codec::{constraint_set, system_in, table_in};
 use tab_history::{TimeMode, Versions};
 use tab_io::Input;
 use tab_key::{Kind, MAX_PART_LEN, Name};
@@ -42,7 +42,7 @@ pub(crate) fn read_part<R: Input>(input: &mut R, parts: &mut Vec<u8>) -> Result<
     read_text(input, parts, count as usize)
 }
 
-#[tactic(auto, using(tab_parts::proofs::NameLemmas::named))]
+#[tactic(auto, using(tab_codec::proofs::NameLemmas::named))]
 fn name_of(bytes: &[u8]) -> Option<Name>
     ensures { result ≡ only_if is_name bytes.now }
 {
@@ -161,7 +161,7 @@ pub(crate) fn read_constraints<R: Input>(
     if bits >= 16 {
         return Err(Unread::Bad);
     }
-    Ok(constraints_in(alloc, bits)?)
+    Ok(constraint_set(alloc, bits)?)
 }
 
 /// Takes a table's horizon; in the first version it is the least one, and nothing is taken.

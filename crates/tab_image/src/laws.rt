@@ -1,6 +1,5 @@
 //! What holds of images: laws, each the contract of a function that does nothing.
-ghost use Rattle.tab_image.specs.Spelling.{OneSpelling};
-ghost use Rattle.tab_image.specs.Written.{WhatFitsIsSpelled};
+ghost use Rattle.tab_image.specs.Written.{OneSpelling, WhatFitsIsSpelled};
 ghost use Rattle.tab_image.specs.Reading.{ImagesAreRead, VersionsAreTold};
 
 /// Reading bytes gives exactly the image that they spell, in either version.

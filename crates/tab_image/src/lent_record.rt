@@ -4,7 +4,7 @@ ghost use Rattle.tab_key.specs.Encoding.{IsShort};
 ghost use Rattle.tab_key.specs.declared.limited_part.TheConstants.{MAX_PART_LEN};
 ghost use Rattle.tab_image.specs.Laying.{lent_record, Begins};
 ghost use Rattle.tab_image.specs.Reading.{part_at};
-ghost use Rattle.tab_parts.specs.Reading.{u32_at, u64_at, i64_at, kind_at};
+ghost use Rattle.tab_codec.specs.Reading.{u32_at, u64_at, i64_at, kind_at};
 
 use crate::fields::kind_of;
 use tab_key::{Key, Kind, MAX_PART_LEN};
@@ -54,7 +54,7 @@ pub(crate) fn record_in(bytes: &[u8]) -> Option<(LentRecord<'_>, &[u8])>
 // Each of these gives what stands at the front of the bytes, and the bytes behind it; None where it doesn't stand there whole.
 
 #[inline]
-#[tactic(auto, unfolding(tab_parts::specs::Reading::u32_at))]
+#[tactic(auto, unfolding(tab_codec::specs::Reading::u32_at))]
 fn number_in(bytes: &[u8]) -> Option<(u32, &[u8])>
     ensures { IfSome result (λ x. u32_at bytes.now ≡ Some (x.0, x.1.now)) }
 {
@@ -67,7 +67,7 @@ fn number_in(bytes: &[u8]) -> Option<(u32, &[u8])>
 }
 
 #[inline]
-#[tactic(auto, unfolding(tab_parts::specs::Reading::u64_at))]
+#[tactic(auto, unfolding(tab_codec::specs::Reading::u64_at))]
 fn long_number_in(bytes: &[u8]) -> Option<(u64, &[u8])>
     ensures { IfSome result (λ x. u64_at bytes.now ≡ Some (x.0, x.1.now)) }
 {
@@ -82,7 +82,7 @@ fn long_number_in(bytes: &[u8]) -> Option<(u64, &[u8])>
 }
 
 #[inline]
-#[tactic(auto, unfolding(tab_parts::specs::Reading::i64_at))]
+#[tactic(auto, unfolding(tab_codec::specs::Reading::i64_at))]
 fn signed_number_in(bytes: &[u8]) -> Option<(i64, &[u8])>
     ensures { IfSome result (λ x. i64_at bytes.now ≡ Some (x.0, x.1.now)) }
 {
@@ -91,7 +91,7 @@ fn signed_number_in(bytes: &[u8]) -> Option<(i64, &[u8])>
 }
 
 #[inline]
-#[tactic(auto, unfolding(tab_parts::specs::Reading::kind_at))]
+#[tactic(auto, unfolding(tab_codec::specs::Reading::kind_at))]
 fn kind_in(bytes: &[u8]) -> Option<(Kind, &[u8])>
     ensures { IfSome result (λ x. kind_at bytes.now ≡ Some (x.0, x.1.now)) }
 {
@@ -102,7 +102,7 @@ fn kind_in(bytes: &[u8]) -> Option<(Kind, &[u8])>
 }
 
 #[inline]
-#[tactic(auto, unfolding(crate::specs::Reading::part_at, crate::specs::Reading::picked_by, tab_parts::specs::Reading::field_at))]
+#[tactic(auto, unfolding(crate::specs::Reading::part_at, crate::specs::Reading::picked_by, tab_codec::specs::Reading::field_at))]
 fn part_in(bytes: &[u8]) -> Option<(&[u8], &[u8])>
     ensures part { IfSome result (λ x. part_at bytes.now ≡ Some (x.0.now, x.1.now)) }
     ensures short { IfSome result (λ x. length x.0.now ≤ MAX_PART_LEN) }

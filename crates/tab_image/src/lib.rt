@@ -33,7 +33,6 @@
 //! `SetLemmas` and `WritingLemmas` on sets and on texts that are put.
 #![tactic(auto)]
 
-mod bits;
 mod byte_order;
 mod fault;
 mod fields;
@@ -59,11 +58,12 @@ pub use fault::{ImageFault, LoadFault};
 pub use image::Image;
 pub use laws::{images_are_read, one_spelling, versions_are_told, what_fits_is_spelled};
 pub use loading::read_image;
+pub use tab_codec::put_field;
 pub use tab_mem::Records;
 pub use table::{ImageRight, ImageTable, TableHead};
 pub use user::ImageUser;
 pub use version::VERSION;
 pub use writing::{
-    put_count, put_end, put_field, put_front, put_head, put_record, put_record_count, put_right,
-    put_settings, put_user,
+    put_count, put_end, put_front, put_head, put_record, put_record_count, put_right, put_settings,
+    put_user,
 };

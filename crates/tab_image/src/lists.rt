@@ -4,7 +4,7 @@
 ghost use Rattle.std.specs.Prelude.{◌≡◌};
 ghost use Rattle.tab_image.specs.Reading.{all_at};
 ghost use Rattle.tab_image.specs.Streams.{Reads, HasRead, Stops};
-ghost use Rattle.tab_parts.specs.Reading.{u32_at, parts_at};
+ghost use Rattle.tab_codec.specs.Reading.{u32_at, parts_at};
 
 use crate::taking::read_u32;
 use crate::unread::Unread;
@@ -14,7 +14,7 @@ use tab_key::Items;
 
 /// How the parts of a list are read.
 pub(crate) trait ReadPart<T> {
-    ghost use Rattle.tab_parts.specs.Reading.{Reader};
+    ghost use Rattle.tab_codec.specs.Reading.{Reader};
 
     // How it is read.
     ghost reads: { Self → Reader T };

@@ -7,7 +7,7 @@ ghost use Rattle.tab_key.specs.RecordSpans.{record_in, IsWithin};
 ghost use Rattle.tab_image.specs.Reading.{record_at, records_at};
 ghost use Rattle.tab_image.specs.Streams.{Reads, HasRead, Stops};
 ghost use Rattle.tab_image.specs.Laying.{span_of, Lays, Adds, AddsFront};
-ghost use Rattle.tab_parts.specs.Reading.{u64_at, parts_at};
+ghost use Rattle.tab_codec.specs.Reading.{u64_at, parts_at};
 
 use crate::fields::{read_kind, read_part};
 use crate::lent_record::record_in;

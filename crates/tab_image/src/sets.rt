@@ -5,7 +5,7 @@ ghost use Rattle.std.specs.Prelude.{◌≡◌, ◌<◌, Some, None, cond};
 ghost use Rattle.tab_label.specs.Sets.{byte_lists};
 ghost use Rattle.tab_image.specs.Reading.{set_at, set_of_list, texts_at};
 ghost use Rattle.tab_image.specs.Streams.{Reads, HasRead, Stops, texts_of};
-ghost use Rattle.tab_parts.specs.Reading.{u32_at, field_at, parts_at};
+ghost use Rattle.tab_codec.specs.Reading.{u32_at, field_at, parts_at};
 
 use crate::byte_order::rise;
 use crate::fields::read_field;

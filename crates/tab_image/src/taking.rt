@@ -6,7 +6,7 @@ ghost use Rattle.std.specs.Io.KnownBytes.{Keeps};
 ghost use Rattle.tab_io.specs.Streams.{FailsByFault};
 ghost use Rattle.tab_image.specs.Streams.{Reads, HasRead, Stops, Appended, text_of};
 ghost use Rattle.tab_image.specs.Takes.{IsAhead, AppendsSome, Appends};
-ghost use Rattle.tab_parts.specs.Reading.{u8_at, u16_at, u32_at, u64_at, i64_at};
+ghost use Rattle.tab_codec.specs.Reading.{u8_at, u16_at, u32_at, u64_at, i64_at};
 
 use crate::unread::Unread;
 use tab_io::{Input, ReadFault};

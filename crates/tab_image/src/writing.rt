@@ -10,15 +10,18 @@
 ghost use Rattle.std.specs.Prelude.{◌≡◌, [], ◌∷◌, ◌++◌};
 ghost use Rattle.std.specs.List.{flat_map};
 ghost use Rattle.tab_io.specs.Writing.{Puts};
-ghost use Rattle.tab_parts.specs.Parts.{kind_byte, time_byte, system_bits, table_bits, constraint_bits};
+ghost use Rattle.tab_codec.specs.Parts.{kind_byte, time_byte, system_bits, table_bits, constraint_bits};
 ghost use Rattle.tab_image.specs.Images.{written_version};
-ghost use Rattle.tab_image.specs.Spelling.{one_byte, two_bytes, four_bytes, eight_bytes, signed_bytes, field_bytes, list_bytes, user_bytes, right_bytes, horizon_bytes, settings_bytes, head_bytes, record_bytes, magic_bytes, front_bytes, end_bytes};
+ghost use Rattle.tab_image.specs.Spelling.{u8, u16, u32, u64, i64, field, counted, user_bytes, right_bytes, horizon_bytes, settings_bytes, head_bytes, record_bytes, magic_bytes, front_bytes, end_bytes};
 
-use crate::bits::{constraint_bits, system_bits, table_bits};
 use crate::table::{ImageRight, TableHead};
 use crate::version::VERSION;
+use tab_codec::{
+    constraint_bits, put_field, put_length, put_long, put_number, put_short, put_signed,
+    system_bits, table_bits, time_byte,
+};
 use tab_history::{TimeMode, Versions};
-use tab_io::{Output, WriteFault};
+use tab_io::{Output, WriteFault, put_byte};
 use tab_key::{ByteString, Name, RecordRef};
 use tab_label::AuthSet;
 use tab_policy::{SystemPermissions, TablePermissions};
@@ -42,17 +45,17 @@ fn put_magic<W: Output>(output: &mut W) -> Result<(), WriteFault>
 }
 
 fn put_versioned<W: Output>(output: &mut W, clock: i64, next: u64) -> Result<(), WriteFault>
-    ensures { Puts W.Output output.old output.new (two_bytes written_version ++ (signed_bytes clock ++ eight_bytes next)) result }
+    ensures { Puts W.Output output.old output.new (u16 written_version ++ (i64 clock ++ u64 next)) result }
 {
-    put_two(output, VERSION)?;
+    put_short(output, VERSION)?;
     put_clock(output, clock, next)
 }
 
 fn put_clock<W: Output>(output: &mut W, clock: i64, next: u64) -> Result<(), WriteFault>
-    ensures { Puts W.Output output.old output.new (signed_bytes clock ++ eight_bytes next) result }
+    ensures { Puts W.Output output.old output.new (i64 clock ++ u64 next) result }
 {
     put_signed(output, clock)?;
-    put_eight(output, next)
+    put_long(output, next)
 }
 
 /// Puts the mark of the end of an image.
@@ -65,25 +68,16 @@ pub fn put_end<W: Output>(output: &mut W) -> Result<(), WriteFault>
 
 /// Puts a count of users, tables, rights or end rows; it has to be below 2^32.
 pub fn put_count<W: Output>(output: &mut W, count: usize) -> Result<(), WriteFault>
-    ensures { Puts W.Output output.old output.new (four_bytes count) result }
+    ensures { Puts W.Output output.old output.new (u32 count) result }
 {
-    put_four(output, count as u64)
+    put_length(output, count)
 }
 
 /// Puts a count of records.
 pub fn put_record_count<W: Output>(output: &mut W, count: usize) -> Result<(), WriteFault>
-    ensures { Puts W.Output output.old output.new (eight_bytes count) result }
+    ensures { Puts W.Output output.old output.new (u64 count) result }
 {
-    put_eight(output, count as u64)
-}
-
-/// Puts a byte string, as the name of a table or an end row: its length, which has to be below 2^32, and its bytes.
-#[tactic(auto, using(tab_io::proofs::Putting::putting), unfolding(crate::specs::Spelling::field_bytes))]
-pub fn put_field<W: Output>(output: &mut W, text: &[u8]) -> Result<(), WriteFault>
-    ensures { Puts W.Output output.old output.new (field_bytes text.now) result }
-{
-    put_count(output, text.len())?;
-    output.put(text)
+    put_long(output, count as u64)
 }
 
 /// Puts a user's permissions on a table.
@@ -96,7 +90,7 @@ pub fn put_right<W: Output>(
     ensures { Puts W.Output output.old output.new (right_bytes (record { user = user.now; held = held })) result }
 {
     put_field(output, user.as_bytes())?;
-    put_one(output, table_bits(held))
+    put_byte(output, table_bits(&held))
 }
 
 /// Puts how a table keeps its columns: its time mode, its number of versions, its constraints, and its horizon.
@@ -110,7 +104,7 @@ pub fn put_settings<W: Output>(
 ) -> Result<(), WriteFault>
     ensures { Puts W.Output output.old output.new (settings_bytes written_version time versions constraints.now horizon) result }
 {
-    put_one(output, time_byte(time))?;
+    put_byte(output, time_byte(time))?;
     put_shown(output, versions, constraints, horizon)
 }
 
@@ -120,9 +114,9 @@ fn put_shown<W: Output>(
     constraints: &ConstraintSet,
     horizon: i64,
 ) -> Result<(), WriteFault>
-    ensures { Puts W.Output output.old output.new (four_bytes versions ++ (one_byte (constraint_bits constraints.now) ++ horizon_bytes written_version horizon)) result }
+    ensures { Puts W.Output output.old output.new (u32 versions ++ (u8 (constraint_bits constraints.now) ++ horizon_bytes written_version horizon)) result }
 {
-    put_four(output, u64::from(versions.get()))?;
+    put_number(output, versions.get())?;
     put_taken(output, constraints, horizon)
 }
 
@@ -131,9 +125,9 @@ fn put_taken<W: Output>(
     constraints: &ConstraintSet,
     horizon: i64,
 ) -> Result<(), WriteFault>
-    ensures { Puts W.Output output.old output.new (one_byte (constraint_bits constraints.now) ++ horizon_bytes written_version horizon) result }
+    ensures { Puts W.Output output.old output.new (u8 (constraint_bits constraints.now) ++ horizon_bytes written_version horizon) result }
 {
-    put_one(output, constraint_bits(constraints))?;
+    put_byte(output, constraint_bits(constraints))?;
     put_horizon(output, horizon)
 }
 
@@ -163,9 +157,9 @@ fn put_held<W: Output>(
     system: SystemPermissions,
     authorizations: &AuthSet,
 ) -> Result<(), WriteFault>
-    ensures { Puts W.Output output.old output.new (one_byte (system_bits system) ++ list_bytes field_bytes authorizations.now) result }
+    ensures { Puts W.Output output.old output.new (u8 (system_bits system) ++ counted field authorizations.now) result }
 {
-    put_one(output, system_bits(system))?;
+    put_byte(output, system_bits(&system))?;
     put_set(output, authorizations)
 }
 
@@ -179,7 +173,7 @@ pub fn put_head<W: Output>(output: &mut W, head: &TableHead) -> Result<(), Write
 }
 
 fn put_kept<W: Output>(output: &mut W, head: &TableHead) -> Result<(), WriteFault>
-    ensures { Puts W.Output output.old output.new (settings_bytes written_version head.now.time head.now.versions head.now.constraints head.now.horizon ++ (list_bytes right_bytes head.now.rights ++ list_bytes field_bytes head.now.ends)) result }
+    ensures { Puts W.Output output.old output.new (settings_bytes written_version head.now.time head.now.versions head.now.constraints head.now.horizon ++ (counted right_bytes head.now.rights ++ counted field head.now.ends)) result }
 {
     put_settings(
         output,
@@ -192,7 +186,7 @@ fn put_kept<W: Output>(output: &mut W, head: &TableHead) -> Result<(), WriteFaul
 }
 
 fn put_lists<W: Output>(output: &mut W, head: &TableHead) -> Result<(), WriteFault>
-    ensures { Puts W.Output output.old output.new (list_bytes right_bytes head.now.rights ++ list_bytes field_bytes head.now.ends) result }
+    ensures { Puts W.Output output.old output.new (counted right_bytes head.now.rights ++ counted field head.now.ends) result }
 {
     put_list(output, head.rights.as_slice(), &Right)?;
     put_list(output, head.ends.as_slice(), &EndRow)
@@ -211,77 +205,25 @@ pub fn put_record<W: Output>(output: &mut W, record: &RecordRef<'_>) -> Result<(
 }
 
 fn put_numbers<W: Output>(output: &mut W, record: &RecordRef<'_>) -> Result<(), WriteFault>
-    ensures { Puts W.Output output.old output.new (signed_bytes record.now.key.timestamp ++ (one_byte (kind_byte record.now.kind) ++ (eight_bytes record.now.seq ++ (four_bytes record.now.idx ++ field_bytes record.now.value)))) result }
+    ensures { Puts W.Output output.old output.new (i64 record.now.key.timestamp ++ (u8 (kind_byte record.now.kind) ++ (u64 record.now.seq ++ (u32 record.now.idx ++ field record.now.value)))) result }
 {
     put_timestamp(output, record)?;
-    put_one(output, record.kind().rank())?;
+    put_byte(output, record.kind().rank())?;
     put_place(output, record)
 }
 
 fn put_timestamp<W: Output>(output: &mut W, record: &RecordRef<'_>) -> Result<(), WriteFault>
-    ensures { Puts W.Output output.old output.new (signed_bytes record.now.key.timestamp) result }
+    ensures { Puts W.Output output.old output.new (i64 record.now.key.timestamp) result }
 {
     put_signed(output, record.timestamp())
 }
 
 fn put_place<W: Output>(output: &mut W, record: &RecordRef<'_>) -> Result<(), WriteFault>
-    ensures { Puts W.Output output.old output.new (eight_bytes record.now.seq ++ (four_bytes record.now.idx ++ field_bytes record.now.value)) result }
+    ensures { Puts W.Output output.old output.new (u64 record.now.seq ++ (u32 record.now.idx ++ field record.now.value)) result }
 {
-    put_eight(output, record.seq())?;
-    put_four(output, u64::from(record.idx()))?;
+    put_long(output, record.seq())?;
+    put_number(output, record.idx())?;
     put_field(output, record.value())
-}
-
-// The byte of a time mode.
-fn time_byte(time: TimeMode) -> u8
-    ensures { result ≡ time_byte time }
-{
-    match time {
-        TimeMode::Any => 0,
-        TimeMode::Server => 1,
-    }
-}
-
-// Puts one byte.
-#[tactic(auto, using(tab_io::proofs::Putting::putting), unfolding(crate::specs::Spelling::one_byte))]
-fn put_one<W: Output>(output: &mut W, byte: u8) -> Result<(), WriteFault>
-    ensures { Puts W.Output output.old output.new (one_byte byte) result }
-{
-    output.put(&[byte])
-}
-
-// Puts a number in two bytes.
-#[tactic(auto, using(tab_io::proofs::Putting::putting), unfolding(crate::specs::Spelling::two_bytes))]
-fn put_two<W: Output>(output: &mut W, number: u16) -> Result<(), WriteFault>
-    ensures { Puts W.Output output.old output.new (two_bytes number) result }
-{
-    output.put(&number.to_be_bytes())
-}
-
-// Puts the four lowest bytes of a number.
-#[tactic(auto, using(tab_io::proofs::Putting::putting), unfolding(crate::specs::Spelling::four_bytes))]
-fn put_four<W: Output>(output: &mut W, number: u64) -> Result<(), WriteFault>
-    ensures { Puts W.Output output.old output.new (four_bytes number) result }
-{
-    let bytes = number.to_be_bytes();
-    output.put(&bytes[4..])
-}
-
-// Puts a number in eight bytes.
-#[tactic(auto, using(tab_io::proofs::Putting::putting), unfolding(crate::specs::Spelling::eight_bytes))]
-fn put_eight<W: Output>(output: &mut W, number: u64) -> Result<(), WriteFault>
-    ensures { Puts W.Output output.old output.new (eight_bytes number) result }
-{
-    output.put(&number.to_be_bytes())
-}
-
-// Puts a number with a sign in eight bytes.
-#[tactic(auto, using(tab_io::proofs::Putting::putting), unfolding(crate::specs::Spelling::signed_bytes))]
-fn put_signed<W: Output>(output: &mut W, number: i64) -> Result<(), WriteFault>
-    ensures { Puts W.Output output.old output.new (signed_bytes number) result }
-{
-    let bits = number.cast_unsigned();
-    output.put(&bits.to_be_bytes())
 }
 
 // A user's permissions on a table, as an item of a list.
@@ -301,9 +243,9 @@ impl PutItem<ImageRight> for Right {
 struct EndRow;
 
 impl PutItem<ByteString> for EndRow {
-    ghost use Rattle.tab_image.specs.Spelling.{field_bytes};
+    ghost use Rattle.tab_image.specs.Spelling.{field};
 
-    ghost text = { λ _ row. field_bytes row };
+    ghost text = { λ _ row. field row };
 
     fn put_item<W: Output>(&self, output: &mut W, row: &ByteString) -> Result<(), WriteFault> {
         put_field(output, row.as_bytes())
@@ -311,13 +253,13 @@ impl PutItem<ByteString> for EndRow {
 }
 
 // Puts a list: a count, and its items.
-#[tactic(auto, using(tab_io::proofs::Putting::putting), unfolding(crate::specs::Spelling::list_bytes))]
+#[tactic(auto, using(tab_io::proofs::Putting::putting))]
 pub(crate) fn put_list<T, P: PutItem<T>, W: Output>(
     output: &mut W,
     items: &[T],
     how: &P,
 ) -> Result<(), WriteFault>
-    ensures { Puts W.Output output.old output.new (list_bytes (P.text how.now) items.now) result }
+    ensures { Puts W.Output output.old output.new (counted (P.text how.now) items.now) result }
 {
     put_count(output, items.len())?;
     put_each(output, items, how)
@@ -327,9 +269,9 @@ pub(crate) fn put_list<T, P: PutItem<T>, W: Output>(
 struct Field;
 
 impl PutItem<Vec<u8>> for Field {
-    ghost use Rattle.tab_image.specs.Spelling.{field_bytes};
+    ghost use Rattle.tab_image.specs.Spelling.{field};
 
-    ghost text = { λ _ bytes. field_bytes bytes.items };
+    ghost text = { λ _ bytes. field bytes.items };
 
     fn put_item<W: Output>(&self, output: &mut W, bytes: &Vec<u8>) -> Result<(), WriteFault> {
         put_field(output, bytes)
@@ -337,9 +279,9 @@ impl PutItem<Vec<u8>> for Field {
 }
 
 // Puts a set: a count, and its members, rising.
-#[tactic(auto, using(tab_io::proofs::Putting::putting), unfolding(crate::specs::Spelling::list_bytes))]
+#[tactic(auto, using(tab_io::proofs::Putting::putting))]
 fn put_set<W: Output>(output: &mut W, set: &AuthSet) -> Result<(), WriteFault>
-    ensures { Puts W.Output output.old output.new (list_bytes field_bytes set.now) result }
+    ensures { Puts W.Output output.old output.new (counted field set.now) result }
 {
     put_count(output, set.len())?;
     put_members(output, set)
@@ -347,7 +289,7 @@ fn put_set<W: Output>(output: &mut W, set: &AuthSet) -> Result<(), WriteFault>
 
 #[tactic(auto, using(tab_io::proofs::Putting::putting, crate::proofs::WritingLemmas::each_field))]
 fn put_members<W: Output>(output: &mut W, set: &AuthSet) -> Result<(), WriteFault>
-    ensures { Puts W.Output output.old output.new (flat_map field_bytes set.now) result }
+    ensures { Puts W.Output output.old output.new (flat_map field set.now) result }
 {
     put_each(output, set.terms(), &Field)
 }

@@ -6,23 +6,21 @@ use Rattle.std.specs.List.{AllByRecursion, list_any}
 use Rattle.std.proofs.lemmas.List.{length-map}
 use mathlib.Core.Bool.{true≢false}
 use Rattle.tab_key.specs.Names.{IsName}
-use Rattle.tab_key.specs.Records.{Record}
 use Rattle.tab_key.specs.Sorted.{sorted}
 use Rattle.tab_key.proofs.Rising.{in_to, all_sorted}
 use Rattle.tab_policy.specs.Permissions.{all_table}
 use Rattle.tab_policy.specs.Sets.{table_contains}
 use Rattle.tab_policy.specs.Holders.{AreUsers, has_any}
 use Rattle.tab_policy.specs.declared.sets.TablePermissions.{TablePermissions}
-use Rattle.tab_parts.specs.Parts.{bits_number, table_bits}
+use Rattle.tab_codec.specs.Parts.{bits_number, table_bits}
 use Rattle.tab_store.specs.ByRow.{records_of_all}
 use Rattle.tab_store.specs.Limits.{IsWellFormed, AreLimited}
 use Rattle.tab_store.specs.Stores.{TableContents, CoreContents}
 use Rattle.tab_core.specs.Stepping.{IsCore}
-use Rattle.tab_image.specs.Images.{IsImage, written_version}
+use Rattle.tab_image.specs.Images.{FitsUser, FitsRight, FitsRecord, FitsTable, Fits, IsImage, written_version}
 use Rattle.tab_image.specs.Spelling.{image_bytes}
-use Rattle.tab_image.specs.Written.{FitsUser, FitsRight, FitsRecord, FitsTable, Fits}
 use Rattle.tab_image.specs.declared.table.ImageRight.{ImageRight}
-use Rattle.tab_image.proofs.WrittenLaw.{what_fits_is_spelled}
+use Rattle.tab_image.proofs.ImageLaw.{what_fits_is_spelled}
 use Rattle.tab_saving.specs.ImageOf.{user_of, right_of, rights_of, table_of, image_with}
 use Rattle.tab_saving.specs.Typed.{IsTypedUser, IsTypedRecord, IsTypedTable, AreTypedClocks}
 use Rattle.tab_saving.proofs.OneList.{all_users, rights_some}
@@ -66,14 +64,13 @@ module _ (h : CoreContents) (names : List (List ℕ)) (users : AreUsers h.policy
       let all : length (map (right_of h.policy t) names) ≡ length names = length-map names (right_of h.policy t) in
       let few = few_names h names users core in omega (arith, kept, all, few)
 
-  fits_table : (t : TableContents) → IsTypedTable t → AreLimited t.tablets → FitsTable (table_of h.policy names t)
+  fits_table : (t : TableContents) → IsTypedTable t → AreLimited t.tablets → FitsTable written_version (table_of h.policy names t)
   fits_table t is limits = record {
     head = record {
       name = is.head.name;
       versions = is.head.versions;
       constraints = is.head.constraints;
       horizon = is.head.horizon;
-      horizon_bits = is.head.horizon_bits;
       rights = fits_rights t.name;
       rights_few = few_rights t.name;
       ends = limits.ends.short;
@@ -84,18 +81,17 @@ module _ (h : CoreContents) (names : List (List ℕ)) (users : AreUsers h.policy
     records_few = is.records.few;
   }
 
-  fits_tables : AllByRecursion (λ t. FitsTable (table_of h.policy names t)) h.tables
-  fits_tables = both IsTypedTable (λ t. AreLimited t.tablets) (λ t. FitsTable (table_of h.policy names t)) fits_table h.tables tables
+  fits_tables : AllByRecursion (λ t. FitsTable written_version (table_of h.policy names t)) h.tables
+  fits_tables = both IsTypedTable (λ t. AreLimited t.tablets) (λ t. FitsTable written_version (table_of h.policy names t)) fits_table h.tables tables
       (all_found (λ t. AreLimited t.tablets) h.tables core.store.names core.store.limits)
 
-  pub fits_with : AreTypedClocks h → Fits (image_with h names)
+  pub fits_with : AreTypedClocks h → Fits written_version (image_with h names)
   fits_with numbers = record {
     clock = numbers.clock;
-    clock_bits = numbers.clock_bits;
     next = numbers.next;
     users = map_all (IsTypedUser h.policy) FitsUser (user_of h.policy) (λ n is. record { name = is.name; rising = is.rising }) names typed;
     users_few = subst (λ n. n < 2 ^ 32) (sym (length-map names (user_of h.policy))) (few_names h names users core);
-    tables = map_all (λ t. FitsTable (table_of h.policy names t)) FitsTable (table_of h.policy names) (λ t fits. fits) h.tables fits_tables;
+    tables = map_all (λ t. FitsTable written_version (table_of h.policy names t)) (FitsTable written_version) (table_of h.policy names) (λ t fits. fits) h.tables fits_tables;
     tables_few = subst (λ n. n < 2 ^ 32) (sym (length-map h.tables (table_of h.policy names))) core.limits.tables;
   }
 

@@ -10,7 +10,7 @@ use Rattle.tab_policy.specs.declared.permission.TablePermission.{TablePermission
 use Rattle.tab_policy.specs.Sets.{table_contains}
 use Rattle.tab_policy.specs.Holders.{AreUsers, AreHolders, has_any, held_among}
 use Rattle.tab_policy.specs.State.{State}
-use Rattle.tab_image.specs.Spelling.{four_bytes, list_bytes, right_bytes}
+use Rattle.tab_image.specs.Spelling.{u32, counted, right_bytes}
 use Rattle.tab_image.specs.declared.table.ImageRight.{ImageRight}
 use Rattle.tab_saving.specs.ImageOf.{rights_of}
 use Rattle.tab_saving.proofs.Granted.{among}
@@ -41,10 +41,9 @@ each_map : {A B : Type 0} (part : B → List ℕ) (f : A → B) (xs : List A) �
 each_map part f [] = refl
 each_map part f (x ∷ xs) = ap (λ t. part (f x) ++ t) (each_map part f xs)
 
-pub list_of_map : {A B : Type 0} (part : B → List ℕ) (f : A → B) (xs : List A) → list_bytes part (map f xs) ≡ list_bytes (λ x. part (f x)) xs
-unfolding list_bytes
-list_of_map part f xs = λ i. four_bytes (length-map xs f i) ++ each_map part f xs i
+pub list_of_map : {A B : Type 0} (part : B → List ℕ) (f : A → B) (xs : List A) → counted part (map f xs) ≡ counted (λ x. part (f x)) xs
+list_of_map part f xs = λ i. u32 (length-map xs f i) ++ each_map part f xs i
 
 -- what is written of them is what is written of the rights
-pub holders_written : (s : State) (names : List (List ℕ)) (t : List ℕ) (hs : List Holder) → AreUsers s names → AreHolders s t hs → list_bytes (λ h. right_bytes (as_right h)) hs ≡ list_bytes right_bytes (rights_of s names t)
-holders_written s names t hs users are = sym (list_of_map right_bytes as_right hs) ∙ ap (list_bytes right_bytes) (holders_are s names t hs users are)
+pub holders_written : (s : State) (names : List (List ℕ)) (t : List ℕ) (hs : List Holder) → AreUsers s names → AreHolders s t hs → counted (λ h. right_bytes (as_right h)) hs ≡ counted right_bytes (rights_of s names t)
+holders_written s names t hs users are = sym (list_of_map right_bytes as_right hs) ∙ ap (counted right_bytes) (holders_are s names t hs users are)

@@ -16,7 +16,7 @@ use Rattle.tab_store.specs.Tablets.{Tablet}
 use Rattle.tab_store.proofs.Apart.{sound_tablets_lie_apart}
 use Rattle.tab_core.specs.Stepping.{IsCore}
 use Rattle.tab_image.specs.Images.{IsImage, written_version}
-use Rattle.tab_image.specs.Spelling.{list_bytes, user_bytes, table_bytes, front_bytes, end_bytes, image_bytes}
+use Rattle.tab_image.specs.Spelling.{counted, user_bytes, table_bytes, front_bytes, end_bytes, image_bytes}
 use Rattle.tab_saving.specs.Existence.{core_bytes, HasImage, CoresHaveImages}
 use Rattle.tab_saving.specs.ImageOf.{user_of, table_of, user_names, image_with, core_image, IsImageOf}
 use Rattle.tab_saving.specs.Saves.{Saves, AreListed}
@@ -73,7 +73,7 @@ module _ {W : Type 0} (g : Ghosts W) where
 -- ---- what is written of it
 -- the users, the tables and the mark of the end
 abbrev pub held_bytes : CoreContents → List (List ℕ) → List ℕ
-held_bytes h names = list_bytes (λ n. user_bytes (user_of h.policy n)) names ++ (list_bytes (λ t. table_bytes written_version (table_of h.policy names t)) h.tables ++ end_bytes)
+held_bytes h names = counted (λ n. user_bytes (user_of h.policy n)) names ++ (counted (λ t. table_bytes written_version (table_of h.policy names t)) h.tables ++ end_bytes)
 
 pub image_written : (h : CoreContents) (names : List (List ℕ)) → front_bytes written_version h.clock h.next ++ held_bytes h names ≡ image_bytes written_version (image_with h names)
 unfolding image_bytes

@@ -1,6 +1,6 @@
 -- For proofs. What the types of a core's parts say of them, and what is counted as they are written: what an image asks for beyond what a core keeps.
 use Rattle.std.specs.Prelude.{ℕ, ◌≡◌, ◌<◌, ◌^◌, List, length, true, FitsSigned}
-use Rattle.std.specs.Int.{w64, cast_unsigned}
+use Rattle.std.specs.Int.{w64}
 use Rattle.std.specs.List.{AllByRecursion}
 use Rattle.tab_key.specs.Encoding.{FitsNumbers}
 use Rattle.tab_key.specs.Names.{IsName}
@@ -25,7 +25,6 @@ pub record IsTypedHead (n : List ℕ) (settings : Settings) : Type 0 where
   pub versions : is_version_count settings.versions ≡ true
   pub constraints : constraint_set_of settings.constraints ≡ settings.constraints
   pub horizon : FitsSigned w64 settings.horizon
-  pub horizon_bits : cast_unsigned w64 settings.horizon < 2 ^ 64
 
 -- a record's numbers are of their widths
 abbrev pub IsTypedRecord : Record → Type 0
@@ -43,7 +42,6 @@ pub record IsTypedTable (t : TableContents) : Type 0 where
 -- the clock and the next number of a core are of their widths
 pub record AreTypedClocks (h : CoreContents) : Type 0 where
   pub clock : FitsSigned w64 h.clock
-  pub clock_bits : cast_unsigned w64 h.clock < 2 ^ 64
   pub next : h.next < 2 ^ 64
 
 -- a core's clocks, users and tables are of their types, and no table has too many records

@@ -3,7 +3,7 @@
 
 ghost use Rattle.std.specs.Prelude.{◌++◌};
 ghost use Rattle.tab_image.specs.Images.{written_version};
-ghost use Rattle.tab_image.specs.Spelling.{field_bytes, list_bytes, right_bytes, settings_bytes, head_bytes};
+ghost use Rattle.tab_image.specs.Spelling.{field, counted, right_bytes, settings_bytes, head_bytes};
 ghost use Rattle.tab_store.specs.ByRow.{ends_of};
 ghost use Rattle.tab_store.specs.Tables.{named_table};
 ghost use Rattle.tab_io.specs.Writing.{Puts};
@@ -35,7 +35,7 @@ pub(crate) fn put_head<W: Output>(
 
 // Puts a table's name and its settings.
 fn put_front_of<W: Output>(output: &mut W, name: &Name, table: &Table) -> Result<(), WriteFault>
-    ensures { Puts W.Output output.old output.new (field_bytes name.now ++ settings_bytes written_version table.now.settings.time table.now.settings.versions table.now.settings.constraints table.now.settings.horizon) result }
+    ensures { Puts W.Output output.old output.new (field name.now ++ settings_bytes written_version table.now.settings.time table.now.settings.versions table.now.settings.constraints table.now.settings.horizon) result }
 {
     put_field(output, name.as_bytes())?;
     put_settings(
@@ -55,7 +55,7 @@ fn put_lists<W: Output>(
     name: &Name,
     table: &Table,
 ) -> Result<(), SaveFault>
-    ensures { ForUsers policy.now (λ names. Saves W.Output output.old output.new (list_bytes right_bytes (rights_of policy.now names name.now) ++ list_bytes field_bytes (ends_of table.now.tablets)) result) }
+    ensures { ForUsers policy.now (λ names. Saves W.Output output.old output.new (counted right_bytes (rights_of policy.now names name.now) ++ counted field (ends_of table.now.tablets)) result) }
 {
     put_rights(alloc, output, policy, name)?;
     put_ends(alloc, output, table)
@@ -68,16 +68,16 @@ fn put_rights<W: Output>(
     policy: &Policy,
     name: &Name,
 ) -> Result<(), SaveFault>
-    ensures { ForUsers policy.now (λ names. Saves W.Output output.old output.new (list_bytes right_bytes (rights_of policy.now names name.now)) result) }
+    ensures { ForUsers policy.now (λ names. Saves W.Output output.old output.new (counted right_bytes (rights_of policy.now names name.now)) result) }
 {
     let holders = policy.holders(alloc, name)?;
     put_holders(output, holders.as_slice())?;
     Ok(())
 }
 
-#[tactic(auto, using(tab_io::proofs::Putting::putting), unfolding(tab_image::specs::Spelling::list_bytes))]
+#[tactic(auto, using(tab_io::proofs::Putting::putting))]
 fn put_holders<W: Output>(output: &mut W, holders: &[Holder]) -> Result<(), WriteFault>
-    ensures { Puts W.Output output.old output.new (list_bytes (λ h. right_bytes (record { user = h.user; held = h.held })) holders.now) result }
+    ensures { Puts W.Output output.old output.new (counted (λ h. right_bytes (record { user = h.user; held = h.held })) holders.now) result }
 {
     put_count(output, holders.len())?;
     put_each(output, holders, &Right)
@@ -85,16 +85,16 @@ fn put_holders<W: Output>(output: &mut W, holders: &[Holder]) -> Result<(), Writ
 
 // Puts the rows at which a table's tablets end.
 fn put_ends<W: Output>(alloc: Global, output: &mut W, table: &Table) -> Result<(), SaveFault>
-    ensures { Saves W.Output output.old output.new (list_bytes field_bytes (ends_of table.now.tablets)) result }
+    ensures { Saves W.Output output.old output.new (counted field (ends_of table.now.tablets)) result }
 {
     let ends = table.ends(alloc)?;
     put_rows(output, ends.as_slice())?;
     Ok(())
 }
 
-#[tactic(auto, using(tab_io::proofs::Putting::putting), unfolding(tab_image::specs::Spelling::list_bytes))]
+#[tactic(auto, using(tab_io::proofs::Putting::putting))]
 fn put_rows<W: Output>(output: &mut W, rows: &[ByteString]) -> Result<(), WriteFault>
-    ensures { Puts W.Output output.old output.new (list_bytes field_bytes rows.now) result }
+    ensures { Puts W.Output output.old output.new (counted field rows.now) result }
 {
     put_count(output, rows.len())?;
     put_each(output, rows, &EndRow)
@@ -117,9 +117,9 @@ impl PutItem<Holder> for Right {
 struct EndRow;
 
 impl PutItem<ByteString> for EndRow {
-    ghost use Rattle.tab_image.specs.Spelling.{field_bytes};
+    ghost use Rattle.tab_image.specs.Spelling.{field};
 
-    ghost text = { λ _ row. field_bytes row };
+    ghost text = { λ _ row. field row };
 
     fn put_item<W: Output>(&self, output: &mut W, row: &ByteString) -> Result<(), WriteFault> {
         put_field(output, row.as_bytes())

@@ -7,7 +7,7 @@ ghost use Rattle.tab_io.specs.Writing.{Puts};
 ghost use Rattle.tab_policy.specs.Holders.{AreUsers};
 ghost use Rattle.tab_core.specs.Stepping.{IsCore};
 ghost use Rattle.tab_image.specs.Images.{IsImage, written_version};
-ghost use Rattle.tab_image.specs.Spelling.{list_bytes, user_bytes, table_bytes, front_bytes, end_bytes, image_bytes};
+ghost use Rattle.tab_image.specs.Spelling.{counted, user_bytes, table_bytes, front_bytes, end_bytes, image_bytes};
 ghost use Rattle.tab_saving.specs.ImageOf.{user_of, table_of, image_with};
 ghost use Rattle.tab_saving.specs.Saves.{Saves, ForUsers, RootHasAll, AreListed};
 ghost use Rattle.tab_saving.specs.Saving.{SavesImage};
@@ -59,7 +59,6 @@ fn put_clocks<W: Output>(output: &mut W, core: &Core) -> Result<(), WriteFault>
     ensures typed { AreTypedClocks core.now }
 {
     let clock = core.clock();
-    let _bits = clock.cast_unsigned();
     put_front(output, clock, core.next())
 }
 
@@ -74,7 +73,7 @@ fn put_held<W: Output>(
     requires root { RootHasAll policy.now }
     requires users { AreUsers policy.now users.now }
     requires listed { AllByRecursion (λ t. AreListed t.tablets) tables.now }
-    ensures put { Saves W.Output output.old output.new (list_bytes (λ n. user_bytes (user_of policy.now n)) users.now ++ (list_bytes (λ t. table_bytes written_version (table_of policy.now users.now t)) tables.now ++ end_bytes)) result }
+    ensures put { Saves W.Output output.old output.new (counted (λ n. user_bytes (user_of policy.now n)) users.now ++ (counted (λ t. table_bytes written_version (table_of policy.now users.now t)) tables.now ++ end_bytes)) result }
     ensures users { OnOk result (AllByRecursion (IsTypedUser policy.now) users.now) }
     ensures tables { OnOk result (AllByRecursion IsTypedTable tables.now) }
 {
@@ -90,7 +89,7 @@ fn put_rest<W: Output>(
     tables: &Tables,
 ) -> Result<(), SaveFault>
     requires { AllByRecursion (λ t. AreListed t.tablets) tables.now }
-    ensures put { ForUsers policy.now (λ names. Saves W.Output output.old output.new (list_bytes (λ t. table_bytes written_version (table_of policy.now names t)) tables.now ++ end_bytes) result) }
+    ensures put { ForUsers policy.now (λ names. Saves W.Output output.old output.new (counted (λ t. table_bytes written_version (table_of policy.now names t)) tables.now ++ end_bytes) result) }
     ensures typed { OnOk result (AllByRecursion IsTypedTable tables.now) }
 {
     put_tables(alloc, output, policy, tables)?;

@@ -4,7 +4,7 @@
 ghost use Rattle.std.specs.Prelude.{OnOk};
 ghost use Rattle.std.specs.List.{AllByRecursion, flat_map};
 ghost use Rattle.tab_image.specs.Images.{written_version};
-ghost use Rattle.tab_image.specs.Spelling.{list_bytes, table_bytes};
+ghost use Rattle.tab_image.specs.Spelling.{counted, table_bytes};
 ghost use Rattle.tab_store.specs.Tables.{named_table};
 ghost use Rattle.tab_saving.specs.ImageOf.{table_of};
 ghost use Rattle.tab_saving.specs.Saves.{Saves, ForUsers, AreListed};
@@ -21,7 +21,6 @@ use tab_policy::Policy;
 use tab_store::{Table, Tables};
 
 /// Puts a count of tables, and each of them.
-#[tactic(auto, using(crate::proofs::Texts::saving, tab_io::proofs::Putting::putting), unfolding(tab_image::specs::Spelling::list_bytes))]
 pub(crate) fn put_tables<W: Output>(
     alloc: Global,
     output: &mut W,
@@ -29,7 +28,7 @@ pub(crate) fn put_tables<W: Output>(
     tables: &Tables,
 ) -> Result<(), SaveFault>
     requires { AllByRecursion (λ t. AreListed t.tablets) tables.now }
-    ensures put { ForUsers policy.now (λ names. Saves W.Output output.old output.new (list_bytes (λ t. table_bytes written_version (table_of policy.now names t)) tables.now) result) }
+    ensures put { ForUsers policy.now (λ names. Saves W.Output output.old output.new (counted (λ t. table_bytes written_version (table_of policy.now names t)) tables.now) result) }
     ensures typed { OnOk result (AllByRecursion IsTypedTable tables.now) }
 {
     put_count(output, tables.len())?;
@@ -80,5 +79,5 @@ fn keep_types(name: &Name, table: &Table)
     let _bytes = name.as_bytes();
     let _count = table.versions().get();
     table.constraints().keeps();
-    let _bits = table.horizon().cast_unsigned();
+    let _horizon = table.horizon();
 }

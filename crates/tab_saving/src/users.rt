@@ -6,7 +6,7 @@ ghost use Rattle.std.specs.List.{AllByRecursion, flat_map};
 ghost use Rattle.tab_io.specs.Writing.{Puts};
 ghost use Rattle.tab_key.specs.Names.{IsName};
 ghost use Rattle.tab_label.specs.Sets.{IsRising};
-ghost use Rattle.tab_image.specs.Spelling.{list_bytes, user_bytes};
+ghost use Rattle.tab_image.specs.Spelling.{counted, user_bytes};
 ghost use Rattle.tab_policy.specs.Holders.{AreUsers};
 ghost use Rattle.tab_policy.specs.State.{user_exists};
 ghost use Rattle.tab_saving.specs.ImageOf.{user_of};
@@ -20,7 +20,6 @@ use tab_label::AuthSet;
 use tab_policy::Policy;
 
 /// Puts a count of users, and each of them.
-#[tactic(auto, using(tab_io::proofs::Putting::putting), unfolding(tab_image::specs::Spelling::list_bytes))]
 pub(crate) fn put_users<W: Output>(
     output: &mut W,
     policy: &Policy,
@@ -28,7 +27,7 @@ pub(crate) fn put_users<W: Output>(
 ) -> Result<(), WriteFault>
     requires root { RootHasAll policy.now }
     requires users { AreUsers policy.now names.now }
-    ensures put { Puts W.Output output.old output.new (list_bytes (λ n. user_bytes (user_of policy.now n)) names.now) result }
+    ensures put { Puts W.Output output.old output.new (counted (λ n. user_bytes (user_of policy.now n)) names.now) result }
     ensures typed { OnOk result (AllByRecursion (IsTypedUser policy.now) names.now) }
 {
     put_count(output, names.len())?;

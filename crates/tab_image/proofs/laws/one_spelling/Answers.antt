@@ -1,4 +1,4 @@
-use Rattle.tab_image.proofs.SpellingLaw.{one_spelling}
+use Rattle.tab_image.proofs.ImageLaw.{one_spelling}
 use Rattle.tab_image.proofs.laws.one_spelling.Goals as goal
 
 pub returns : goal.returns

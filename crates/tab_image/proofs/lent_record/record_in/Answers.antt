@@ -1,6 +1,6 @@
 -- A record is its parts, one behind another.
 use Rattle.std.proofs.Common.{rules, ◌≡◌, ℤ, w64, to_z, of_z, sym, subst, arith}
-use Rattle.tab_parts.specs.Parts.{IsBytes}
+use Rattle.tab_codec.specs.Parts.{IsBytes}
 use Rattle.tab_image.specs.Laying.{Begins}
 use Rattle.tab_image.proofs.FrontLemmas.{parts_whole, begins}
 use Rattle.tab_image.proofs.RecordLemmas.{record_of}

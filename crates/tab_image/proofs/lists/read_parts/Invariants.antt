@@ -1,4 +1,4 @@
-use Rattle.tab_parts.specs.Reading.{parts_at}
+use Rattle.tab_codec.specs.Reading.{parts_at}
 use Rattle.tab_image.specs.Streams.{HasRead}
 use Rattle.tab_image.proofs.lists.read_parts.Given as goal
 

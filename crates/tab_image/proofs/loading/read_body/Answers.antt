@@ -1,5 +1,5 @@
 use Rattle.std.proofs.Common.{rules, ◌≡◌, ℤ, w64, to_z, of_z, sym, subst}
-use Rattle.tab_parts.specs.Reading.{u64_at, i64_at}
+use Rattle.tab_codec.specs.Reading.{u64_at, i64_at}
 use Rattle.tab_image.specs.Reading.{users_at, tables_at, mark_at, body_at}
 use Rattle.tab_image.specs.Streams.{HasRead, Stops}
 use Rattle.tab_image.proofs.Streams.{stops_first, stops_later}

@@ -1,5 +1,5 @@
 use Rattle.std.proofs.Common.{rules, ◌≡◌, ℤ, w64, to_z, of_z, sym, subst}
-use Rattle.tab_parts.specs.Reading.{name_at, time_at, versions_at, constraints_at}
+use Rattle.tab_codec.specs.Reading.{name_at, time_at, versions_at, constraints_at}
 use Rattle.tab_image.specs.Reading.{horizon_at, rights_at, ends_at, head_at}
 use Rattle.tab_image.specs.Streams.{HasRead, Stops}
 use Rattle.tab_image.proofs.Streams.{read_then, stops_first, stops_later, read_made}

@@ -1,6 +1,6 @@
 use Rattle.std.proofs.Common.{◌+◌, List, sym, subst}
 use Rattle.tab_key.specs.Records.{Record}
-use Rattle.tab_parts.specs.Reading.{parts_at}
+use Rattle.tab_codec.specs.Reading.{parts_at}
 use Rattle.tab_image.specs.Reading.{record_at}
 use Rattle.tab_image.specs.Streams.{HasRead}
 use Rattle.tab_image.proofs.PartsLemmas.{read_pushed, stops_short}

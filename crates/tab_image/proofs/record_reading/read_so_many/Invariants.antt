@@ -1,4 +1,4 @@
-use Rattle.tab_parts.specs.Reading.{parts_at}
+use Rattle.tab_codec.specs.Reading.{parts_at}
 use Rattle.tab_image.specs.Reading.{record_at}
 use Rattle.tab_image.specs.Streams.{HasRead}
 use Rattle.tab_image.proofs.record_reading.read_so_many.Given as goal

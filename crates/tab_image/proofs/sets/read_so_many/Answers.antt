@@ -1,7 +1,7 @@
 use Rattle.std.proofs.Common.{◌≡◌, ◌+◌, ℕ, List, [], ◌∷◌, ◌++◌, ◌∙◌, ap, sym, subst}
 use Rattle.std.proofs.lemmas.List.{map-append}
 use Rattle.tab_label.specs.Sets.{byte_lists}
-use Rattle.tab_parts.specs.Reading.{field_at, parts_at}
+use Rattle.tab_codec.specs.Reading.{field_at, parts_at}
 use Rattle.tab_image.specs.Streams.{HasRead}
 use Rattle.tab_image.proofs.PartsLemmas.{read_pushed, stops_short}
 use Rattle.tab_image.proofs.sets.read_so_many.Goals as goal

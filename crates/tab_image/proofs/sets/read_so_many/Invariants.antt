@@ -1,5 +1,5 @@
 use Rattle.tab_label.specs.Sets.{byte_lists}
-use Rattle.tab_parts.specs.Reading.{field_at, parts_at}
+use Rattle.tab_codec.specs.Reading.{field_at, parts_at}
 use Rattle.tab_image.specs.Streams.{HasRead}
 use Rattle.tab_image.proofs.sets.read_so_many.Given as goal
 

@@ -2,22 +2,22 @@ use Rattle.std.proofs.Common.{rules, ◌≡◌, ℕ, ℤ, ◌++◌, subst, to_z,
 use Rattle.std.proofs.lemmas.Int.{to_z-of_z}
 use Rattle.tab_io.specs.Writing.{HasPut, HasPutPart, Puts}
 use Rattle.tab_io.proofs.Putting.{puts_more, part_longer}
-use Rattle.tab_parts.specs.Parts.{time_byte, constraint_bits}
+use Rattle.tab_codec.specs.Parts.{time_byte, constraint_bits}
 use Rattle.tab_image.specs.Images.{written_version}
-use Rattle.tab_image.specs.Spelling.{one_byte, four_bytes, horizon_bytes, settings_bytes}
+use Rattle.tab_image.specs.Spelling.{u8, u32, horizon_bytes, settings_bytes}
 use Rattle.tab_image.proofs.writing.put_settings.Goals as goal
 
 pub returns : goal.returns
 unfolding settings_bytes
 returns g c =
     let same : to_z w64 (of_z w64 c.args.horizon) ≡ c.args.horizon = to_z-of_z w64 c.args.horizon c.ranges.horizon in
-    puts_more g.W.Output c.args.output.now c.put_one.new.output c.put_shown.new.output (one_byte (time_byte c.args.time)) (four_bytes c.args.versions ++ (one_byte (constraint_bits c.args.constraints.now) ++ horizon_bytes written_version c.args.horizon)) c.put_shown.result
-    (subst (λ (n : ℕ). HasPut g.W.Output c.args.output.now c.put_one.new.output (one_byte n)) c.time_byte.ensures c.in_ok-put_one.ensures)
-    (subst (λ (z : ℤ). Puts g.W.Output c.put_one.new.output c.put_shown.new.output (four_bytes c.args.versions ++ (one_byte (constraint_bits c.args.constraints.now) ++ horizon_bytes written_version z)) c.put_shown.result) same c.put_shown.ensures)
+    puts_more g.W.Output c.args.output.now c.put_byte.new.output c.put_shown.new.output (u8 (time_byte c.args.time)) (u32 c.args.versions ++ (u8 (constraint_bits c.args.constraints.now) ++ horizon_bytes written_version c.args.horizon)) c.put_shown.result
+    (subst (λ (n : ℕ). HasPut g.W.Output c.args.output.now c.put_byte.new.output (u8 n)) c.time_byte.ensures c.in_ok-put_byte.ensures)
+    (subst (λ (z : ℤ). Puts g.W.Output c.put_byte.new.output c.put_shown.new.output (u32 c.args.versions ++ (u8 (constraint_bits c.args.constraints.now) ++ horizon_bytes written_version z)) c.put_shown.result) same c.put_shown.ensures)
 
-pub returns-in_err-put_one : goal.returns-in_err-put_one
+pub returns-in_err-put_byte : goal.returns-in_err-put_byte
 unfolding settings_bytes
-returns-in_err-put_one g c =
-    let part : HasPutPart g.W.Output c.args.output.now c.put_one.new.output (settings_bytes written_version c.args.time c.args.versions c.args.constraints.now c.args.horizon) =
-    part_longer {t = one_byte (time_byte c.args.time)} (four_bytes c.args.versions ++ (one_byte (constraint_bits c.args.constraints.now) ++ horizon_bytes written_version c.args.horizon)) (subst (λ (n : ℕ). HasPutPart g.W.Output c.args.output.now c.put_one.new.output (one_byte n)) c.time_byte.ensures c.in_err-put_one.ensures) in
+returns-in_err-put_byte g c =
+    let part : HasPutPart g.W.Output c.args.output.now c.put_byte.new.output (settings_bytes written_version c.args.time c.args.versions c.args.constraints.now c.args.horizon) =
+    part_longer {t = u8 (time_byte c.args.time)} (u32 c.args.versions ++ (u8 (constraint_bits c.args.constraints.now) ++ horizon_bytes written_version c.args.horizon)) (subst (λ (n : ℕ). HasPutPart g.W.Output c.args.output.now c.put_byte.new.output (u8 n)) c.time_byte.ensures c.in_err-put_byte.ensures) in
     search (rules, part)

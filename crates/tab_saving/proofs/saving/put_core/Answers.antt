@@ -1,11 +1,11 @@
-use Rattle.std.proofs.Common.{◌≡◌, List, ℕ, sym, subst}
+use Rattle.std.proofs.Common.{List, sym, subst}
 use Rattle.std.specs.Prelude.{OnOk}
 use Rattle.std.specs.List.{AllByRecursion}
 use Rattle.tab_image.specs.Images.{written_version}
 use Rattle.tab_image.specs.Spelling.{front_bytes}
 use Rattle.tab_policy.specs.Holders.{AreUsers}
 use Rattle.tab_policy.specs.State.{State}
-use Rattle.tab_store.specs.Stores.{TableContents, CoreContents}
+use Rattle.tab_store.specs.Stores.{TableContents}
 use Rattle.tab_saving.specs.Saves.{Saves, RootHasAll, AreListed}
 use Rattle.tab_saving.specs.Typed.{IsTypedUser, IsTypedTable}
 use Rattle.tab_saving.proofs.Fitting.{spelled_with}

@@ -1,6 +1,6 @@
 use Rattle.std.proofs.Common.{◌++◌}
 use Rattle.tab_image.specs.Images.{written_version}
-use Rattle.tab_image.specs.Spelling.{list_bytes, user_bytes, table_bytes, end_bytes}
+use Rattle.tab_image.specs.Spelling.{counted, user_bytes, table_bytes, end_bytes}
 use Rattle.tab_saving.specs.ImageOf.{user_of, table_of}
 use Rattle.tab_saving.proofs.Texts.{saves_more}
 use Rattle.tab_saving.proofs.saving.put_held.Goals as goal
@@ -10,5 +10,5 @@ returns-clause-put g c =
     let s = c.args.policy.now in
     let names = c.args.users.now in
     saves_more g.W.Output c.args.output.now c.put_users.new.output c.put_rest.new.output
-    (list_bytes (λ n. user_bytes (user_of s n)) names) (list_bytes (λ t. table_bytes written_version (table_of s names t)) c.args.tables.now ++ end_bytes) c.put_rest.result
+    (counted (λ n. user_bytes (user_of s n)) names) (counted (λ t. table_bytes written_version (table_of s names t)) c.args.tables.now ++ end_bytes) c.put_rest.result
     c.in_ok-put_users.ensures.put (c.put_rest.ensures.put names c.requires.users)

@@ -1,6 +1,6 @@
 use Rattle.std.proofs.lemmas.Result.{on_ok_weaker}
-use Rattle.tab_image.specs.Spelling.{head_bytes, records_bytes, table_bytes}
-use Rattle.tab_saving.proofs.Texts.{saves_more, failed_longer}
+use Rattle.tab_image.specs.Spelling.{table_bytes}
+use Rattle.tab_saving.proofs.Texts.{saves_more}
 use Rattle.tab_saving.proofs.tables.put_table.Goals as goal
 
 pub returns-clause-put : goal.returns-clause-put
