@@ -7,6 +7,6 @@ pub mod Installs
 pub mod Receipts
 pub mod Wholeness
 pub mod Examples
-pub use Rattle.tab_event_record.specs.Acts
+pub use Rattle.tab_event_record.specs.Records
 pub mod Rotating
 pub mod Telling

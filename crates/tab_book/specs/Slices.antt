@@ -1,22 +1,9 @@
 -- To be believed by whoever relies on it. Entries of a history, shared: what was asked, and how it ended.
 use Rattle.std.specs.Prelude.{ℕ, ◌-◌, max, List, map, take, drop}
-use Rattle.tab_key.specs.declared.limited_part.LimitedPart.TheVariants.{Sessions}
-use Rattle.tab_history.specs.Answers.{Told}
 use Rattle.tab_history.specs.declared.event.Event.{Event}
-use Rattle.tab_history.specs.declared.reply.Refusal.TheVariants.{NoMemory, TooLarge, NoSession, NoJob}
-use Rattle.tab_history.specs.declared.reply.Reply.TheVariants.{Refused}
-use Rattle.tab_book.specs.declared.outcome.Outcome.{Outcome}
-use Rattle.tab_book.specs.declared.outcome.Outcome.TheVariants as outcome
+use Rattle.tab_event_record.specs.declared.outcome.Outcome.{Outcome}
+pub use Rattle.tab_event_record.specs.Outcomes.{outcome_of}
 use Rattle.tab_book.specs.Entries.{Posted}
-
--- how an event ended that was told so
-abbrev pub outcome_of : Told → Outcome
-outcome_of (Refused NoMemory) = outcome.Void
-outcome_of (Refused (TooLarge Sessions)) = outcome.Void
-outcome_of (Refused (NoSession slot)) = outcome.Void
-outcome_of (Refused (NoJob slot)) = outcome.Void
-outcome_of (Refused r) = outcome.Refused
-outcome_of reply = outcome.Answered
 
 -- what was asked, and how it ended
 pub record Shown : Type 0 where

@@ -60,12 +60,12 @@ impl Entry {
     }
 }
 
-// An entry at rest takes at most 216 bytes: its place in the book, the event, and the count of those who share it.
+// An entry at rest takes at most 112 bytes: its place in the book, the event, and the count of those who share it.
 const _: () = prove!(
-    size_of::<RecordedEntry>() + size_of::<EventRecord>() + size_of::<usize>() <= 216
+    size_of::<RecordedEntry>() + size_of::<EventRecord>() + size_of::<usize>() <= 112
 );
 
-/// An entry at rest: 32 bytes in the book, and 184 for the event. The event is shared with the entry's receipt.
+/// An entry at rest: 32 bytes in the book, and 80 for the event. The event is shared with the entry's receipt.
 pub struct RecordedEntry {
     seat: u32,
     event: Arc<EventRecord>,

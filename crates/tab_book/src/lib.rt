@@ -18,10 +18,9 @@
 //!
 //! Who writes a history elsewhere takes its entries in a row ([`Book::slice`], [`Part::slice`]): they are shared, not copied.
 //!
-//! An entry takes 216 bytes beside the bytes of its names, its rows and its mutation; what says where a mutation's further updates lie, a
-//! scan's columns and authorizations, and a reply other than done and opened come to that. The event is there once, for the book and for the
-//! receipt. A base keeps the sorted tables that it shares with the core for as long as the book or the part has it: after compactions a table
-//! may be in memory twice.
+//! An entry takes 112 bytes beside those of its user's name and of its event's body, which is that of the frame that asks it. To these comes
+//! a reply other than done and opened. The event is there once, for the book and for the receipt. A base keeps the sorted tables that it
+//! shares with the core for as long as the book or the part has it: after compactions a table may be in memory twice.
 //!
 //! | File | What |
 //! |---|---|
@@ -66,14 +65,13 @@ pub use book::{Book, SeatsOut, book_is_legal, receipts_are_whole, settle};
 pub use entry::{Entry, RecordedEntry};
 pub use held::Held;
 pub use installation::Installation;
-pub use outcome::Outcome;
 pub use part::{Part, part_is_legal, parts_are_one_history};
 pub use receipt::Receipt;
 pub use recorded_reply::RecordedReply;
 pub use reservation::Reservation;
 pub use seat::Seat;
 pub use slice::{SharedEntry, Slice};
-pub use tab_event_record::EventRecord;
+pub use tab_event_record::{EventRecord, Outcome};
 pub use telling::{books_tell_alike, parts_in_turn_are_one_history, parts_tell_alike};
 
 #[cfg(test)]

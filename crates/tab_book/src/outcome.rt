@@ -7,19 +7,9 @@ ghost use Rattle.tab_book.specs.Slices.{outcome_of};
 
 use crate::recorded_reply::RecordedReply;
 use tab_core::EventReply;
+use tab_event_record::Outcome;
 use tab_history::Refusal;
 use tab_key::LimitedPart;
-
-/// How an event ended, as far as what it leaves goes.
-#[derive(Clone, Copy, PartialEq, Eq, Debug)]
-pub enum Outcome {
-    /// It was refused, and left nothing at all: it moved no clock.
-    Void,
-    /// It was refused: it moved the clock, and changed nothing else.
-    Refused,
-    /// It was answered otherwise: it moved the clock, and made its changes.
-    Answered,
-}
 
 impl RecordedReply {
     // How the event ended that was told so.

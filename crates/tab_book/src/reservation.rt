@@ -1,5 +1,7 @@
 //! Memory for an entry.
-ghost use Rattle.std.specs.Prelude.{◌≡◌, IfOk};
+ghost use Rattle.std.specs.Prelude.{◌≡◌, IfOk, Some};
+ghost use Rattle.tab_wire.specs.declared.request.Request.TheVariants as Request;
+ghost use Rattle.tab_wire.specs.Requests.{request_in};
 ghost use Rattle.std.specs.Arc.{arc_value};
 ghost use Rattle.tab_core.specs.Stepping.{asked_at};
 
@@ -50,7 +52,30 @@ impl Reservation {
     ) -> Result<Reservation, AllocError>
         ensures { IfOk result (λ reserved. reserved ≡ asked_at user.now moment act.now) }
     {
-        let event_record = EventRecord::of(alloc, user, moment, act)?;
+        Reservation::over(alloc, EventRecord::of(alloc, user, moment, act)?)
+    }
+
+    /// Finds the memory for what the user asks at the moment by a frame of this body. A Write's body is copied as it came.
+    pub fn of_asked(
+        alloc: Global,
+        user: &Name,
+        moment: i64,
+        act: &Act,
+        body: &[u8],
+    ) -> Result<Reservation, AllocError>
+        requires { request_in body.now ≡ Some (Request.Act act.now) }
+        ensures { IfOk result (λ reserved. reserved ≡ asked_at user.now moment act.now) }
+    {
+        Reservation::over(
+            alloc,
+            EventRecord::of_asked(alloc, user, moment, act, body)?,
+        )
+    }
+
+    // The memory for this event.
+    fn over(alloc: Global, event_record: EventRecord) -> Result<Reservation, AllocError>
+        ensures { IfOk result (λ reserved. reserved ≡ event_record) }
+    {
         let Ok(first) = Arc::new(alloc, event_record) else {
             return Err(AllocError);
         };

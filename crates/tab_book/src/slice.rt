@@ -4,12 +4,11 @@ ghost use Rattle.std.specs.Arc.{arc_value};
 ghost use Rattle.tab_book.specs.Slices.{stretch_of};
 
 use crate::blocks::Blocks;
-use crate::outcome::Outcome;
 use std::alloc::{AllocError, Global};
 use std::marker::{Model, PhantomData};
 use std::sync::Arc;
 use std::sync::ledger::Ledger;
-use tab_event_record::EventRecord;
+use tab_event_record::{EventRecord, Outcome};
 
 /// What an entry says, in 16 bytes: the event, which it shares with the history, and how it ended.
 #[derive(Drop)]

@@ -36,7 +36,7 @@ impl<'a, M: Moments> Service for CoreService<'a, M> {
 
     ghost answers = { λ old user request reply new. CoreAnswers M.gives old user request reply new };
 
-    fn answer(&mut self, user: &Name, request: &mut Request) {
+    fn answer(&mut self, user: &Name, request: &mut Request, _frame: &[u8]) {
         let reply = self.does(user, request);
         put(self.reply, reply);
     }

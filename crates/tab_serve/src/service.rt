@@ -1,7 +1,8 @@
 //! What answers the requests of a connection.
-ghost use Rattle.std.specs.Prelude.{◌≡◌, ◌<◌, ℕ, List, true};
+ghost use Rattle.std.specs.Prelude.{◌≡◌, ◌<◌, ℕ, List, Some, true};
 ghost use Rattle.tab_history.specs.Answers.{Told};
 ghost use Rattle.tab_wire.specs.Asking.{opens, opened_by};
+ghost use Rattle.tab_wire.specs.Requests.{request_in};
 ghost use Rattle.tab_wire.specs.declared.request.Request.{Request as Asks};
 
 use tab_history::Reply;
@@ -27,9 +28,11 @@ pub trait Service {
     /// Hears what was read as a frame. Nothing is asked of it here, and by default nothing is done.
     fn hear(&self, _asked: &Asked) {}
 
-    /// Answers the request of this user. Hello is a request too. What is kept of the request may be taken out of it.
-    fn answer(&mut self, user: &Name, request: &mut Request)
-        requires { ready }
+    /// Answers the request of this user, which the frame of these bytes asks. Hello is a request too. What is kept of the request may be taken
+    /// out of it.
+    fn answer(&mut self, user: &Name, request: &mut Request, frame: &[u8])
+        requires ready { ready }
+        requires framed { request_in frame.now ≡ Some request.old }
         ensures answers { answers self.old user.now request.old (told self.new) self.new }
         ensures room { opens (told self.new) ≡ true → opened self.old < u32.MAX }
         ensures opened { opened self.new ≡ opened_by (opened self.old) (told self.new) };

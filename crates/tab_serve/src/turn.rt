@@ -1,8 +1,9 @@
 //! One frame, and what it is told.
-ghost use Rattle.std.specs.Prelude.{◌≡◌, ℕ, true, List, Option, [], is_some, unwrap_or, IfOk, IfSome, OnErr};
+ghost use Rattle.std.specs.Prelude.{◌≡◌, ℕ, true, List, Option, [], is_some, Some, unwrap_or, IfOk, IfSome, OnErr};
 ghost use Rattle.tab_io.specs.Streams.{FailsByFault};
 ghost use Rattle.tab_io.specs.Writing.{Puts};
-ghost use Rattle.tab_wire.specs.Asking.{Asks, Knows};
+ghost use Rattle.tab_wire.specs.Asking.{Asks, Knows, Stays, IsFramed};
+ghost use Rattle.tab_wire.specs.Requests.{request_in};
 ghost use Rattle.tab_wire.specs.Taking.{TakesPart, Costs};
 ghost use Rattle.tab_wire.specs.Heard.{heard_by, next_by, HasUser};
 ghost use Rattle.tab_wire.specs.Heard as heard;
@@ -36,12 +37,13 @@ fn answer<W: Output, S: Service>(
     requires ready { S.ready }
     requires opened { conn.old.opened ≡ S.opened service.old }
     requires user { is_some conn.old.user ≡ true }
+    requires framed { request_in conn.old.frame ≡ Some request.old }
     ensures told { (sent : Sent) × Tells S.Service service.old (heard.Request (unwrap_or conn.old.user []) request.old) sent service.new × Puts W.Output output.old output.new (sent_bytes sent) result }
     ensures user { conn.new.user ≡ conn.old.user }
     ensures opened { conn.new.opened ≡ S.opened service.new }
 {
     let count = cells_asked(request);
-    service.answer(conn.user().unwrap(), request);
+    service.answer(conn.user().unwrap(), request, conn.frame());
     conn.answer(count, service.reply(), output)
 }
 
@@ -55,6 +57,7 @@ fn tell<W: Output, S: Service>(
     requires ready { S.ready }
     requires opened { conn.old.opened ≡ S.opened service.old }
     requires user { HasUser conn.old.user asked.old }
+    requires framed { IsFramed conn.old.frame (Some asked.old) }
     ensures told { (sent : Sent) × Tells S.Service service.old (heard_by conn.old.user asked.old) sent service.new × Puts W.Output output.old output.new (sent_bytes sent) result }
     ensures user { conn.new.user ≡ conn.old.user }
     ensures opened { conn.new.opened ≡ S.opened service.new }
@@ -84,6 +87,7 @@ fn tell_on<W: Output, S: Service>(
     requires ready { S.ready }
     requires opened { conn.old.opened ≡ S.opened service.old }
     requires user { HasUser conn.old.user asked.old }
+    requires framed { IsFramed conn.old.frame (Some asked.old) }
     ensures told { (sent : Sent) × Tells S.Service service.old (heard_by conn.old.user asked.old) sent service.new × PutsOn W.Output output.old output.new (sent_bytes sent) result }
     ensures on { IfOk result (λ on. on ≡ goes_on (heard_by conn.old.user asked.old)) }
     ensures user { conn.new.user ≡ conn.old.user }
@@ -106,6 +110,7 @@ fn tell_read<W: Output, S: Service>(
     requires ready { S.ready }
     requires opened { conn.old.opened ≡ S.opened service.old }
     requires user { HasUser conn.old.user asked }
+    requires framed { IsFramed conn.old.frame (Some asked) }
     ensures told { (sent : Sent) × Tells S.Service service.old (heard_by conn.old.user asked) sent service.new × PutsOn W.Output output.old output.new (sent_bytes sent) result }
     ensures on { IfOk result (λ on. on ≡ goes_on (heard_by conn.old.user asked)) }
     ensures user { conn.new.user ≡ conn.old.user }
@@ -151,7 +156,8 @@ fn ask<R: Input, W: Output>(
     requires { NothingWaits R.Input W.Output input.old _output.now }
     ensures ahead { IfOk result (λ asked. IfSome (R.remaining input.old) (λ ahead. Asks (is_some conn.old.user) ahead (next_by conn.new.user asked) (R.remaining input.new))) }
     ensures ok { IfOk result (λ asked. Knows conn.old (next_by conn.new.user asked) conn.new) }
-    ensures err { OnErr result (conn.new ≡ conn.old) }
+    ensures err { OnErr result (Stays conn.old conn.new) }
+    ensures frame { IfOk result (λ asked. IsFramed conn.new.frame asked) }
     ensures left { OnErr result (TakesPart (R.remaining input.old) (R.remaining input.new)) }
     ensures faults { FailsByFault result (R.faults input.old) (R.faults input.new) (R.budget input.new) }
     ensures costs { IfOk result (λ _. Costs R.Input input.old input.new) }

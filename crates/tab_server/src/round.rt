@@ -2,8 +2,7 @@
 
 use std::alloc::{AllocError, Global};
 use std::sync::ledger::Ledger;
-use tab_book::{Outcome, SharedEntry};
-use tab_history::{Refusal, Reply};
+use tab_book::SharedEntry;
 use tab_journal::Gathered;
 
 // From how many bytes on what was gathered is kept before more is.
@@ -42,7 +41,7 @@ impl Round {
 
     /// Gathers the next entry, which this is. Where memory lacks it isn't.
     pub(crate) fn add(&mut self, entry: &SharedEntry) -> Result<(), AllocError> {
-        self.gathered.add(entry.event(), &told(entry.outcome()))?;
+        self.gathered.add(entry.event(), entry.outcome())?;
         self.next = self.next.saturating_add(1);
         Ok(())
     }
@@ -50,14 +49,5 @@ impl Round {
     /// What was gathered is kept.
     pub(crate) fn clear(&mut self) {
         self.gathered.clear();
-    }
-}
-
-// A reply to an event that ended so: what is kept of an event doesn't hang on which one it was.
-fn told(outcome: Outcome) -> Reply {
-    match outcome {
-        Outcome::Void => Reply::Refused(Refusal::NoMemory),
-        Outcome::Refused => Reply::Refused(Refusal::EmptyMutation),
-        Outcome::Answered => Reply::Done,
     }
 }

@@ -2,7 +2,7 @@
 use Rattle.std.specs.Prelude.{Bool, true, false, ◌&&◌}
 use Rattle.tab_history.specs.Answers.{Told}
 use Rattle.tab_history.specs.declared.reply.Reply.TheVariants.{Done}
-use Rattle.tab_book.specs.Acts.{is_write}
+use Rattle.tab_book.specs.Records.{is_write}
 use Rattle.tab_book.specs.Entries.{Posted}
 
 -- whether it is told that all went well, and no more

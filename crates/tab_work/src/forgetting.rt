@@ -43,9 +43,9 @@ impl<'a, L: Ledger, R: Threads + Wait + Sync, M: Moments, G: Gate> Service
         self.service.hear(asked);
     }
 
-    fn answer(&mut self, user: &Name, request: &mut Request) {
+    fn answer(&mut self, user: &Name, request: &mut Request, frame: &[u8]) {
         self.service.receipts.clear();
-        self.service.does(user, request);
+        self.service.does(user, request, frame);
         self.service.gate.after_reply(self.service.reply());
     }
 

@@ -1,11 +1,13 @@
 //! A book that threads share.
-ghost use Rattle.std.specs.Prelude.{◌≡◌, ◌≤◌, ◌<◌, IfOk, IfErr, OnErr, IfSome, sum_by};
+ghost use Rattle.std.specs.Prelude.{◌≡◌, ◌≤◌, ◌<◌, Some, IfOk, IfErr, OnErr, IfSome, sum_by};
 ghost use Rattle.std.specs.Sync.Mutex.{mutex_guard_value};
 ghost use Rattle.tab_book.specs.Entries.{next_of};
 ghost use Rattle.tab_book.specs.HandedOut.{session_in};
 ghost use Rattle.tab_book.specs.Installs.{event_of};
 ghost use Rattle.tab_book.specs.Receipts.{Receives};
 ghost use Rattle.tab_serve.specs.Serves.{asked_at};
+ghost use Rattle.tab_wire.specs.Requests.{request_in};
+ghost use Rattle.tab_wire.specs.declared.request.Request.TheVariants as Request;
 ghost use Rattle.tab_work.specs.Dues.{AreDue, IsDue};
 ghost use Rattle.tab_work.specs.Receiving.{HandsOut};
 ghost use Rattle.tab_work.specs.Slicing.{IsShared};
@@ -194,6 +196,28 @@ impl<L: Ledger> Shared<L> {
         let memory = Reservation::of_lent(alloc, user, moment, act)?;
         let mut locked = self.ready(rt, seat);
         apply_to(alloc, &mut locked.book, seat, user, moment, act, memory)
+    }
+
+    /// Does what the user asks at the moment by a frame of this body, as [`Shared::apply_lent`] does that act. Of a Write the history keeps
+    /// the body as it came.
+    pub fn apply_asked<R: Wait>(
+        &self,
+        rt: &R,
+        alloc: Global,
+        seat: &mut Seat<L>,
+        user: &Name,
+        moment: i64,
+        act: &mut Act,
+        frame: &[u8],
+    ) -> Result<Receipt<L>, AllocError>
+        requires { request_in frame.now ≡ Some (Request.Act act.old) }
+        ensures ok { IfOk result (λ r. Receives seat.old (asked_at user.now moment act.old) r seat.new) }
+        ensures hands { IfOk result (λ r. HandsOut act.old (session_in r.held)) }
+        ensures err { OnErr result ((seat.new ≡ seat.old) × (act.new ≡ act.old)) }
+    {
+        let kept = Reservation::of_asked(alloc, user, moment, act, frame)?;
+        let mut locked = self.ready(rt, seat);
+        apply_to(alloc, &mut locked.book, seat, user, moment, act, kept)
     }
 
     /// Installs a finished merge, as [`Shared::apply`] does an event. Where the book's history can't grow the Install is handed back with

@@ -1,11 +1,12 @@
 //! A seat of a shared book that answers the requests of one connection.
-ghost use Rattle.std.specs.Prelude.{◌≡◌, ◌<◌, true, false, [], ◌∷◌, ◌++◌, None, IfOk, OnErr, IsTrue, vec_len, vec_capacity};
+ghost use Rattle.std.specs.Prelude.{◌≡◌, ◌<◌, true, false, [], ◌∷◌, ◌++◌, None, Some, IfOk, OnErr, IsTrue, vec_len, vec_capacity};
 ghost use Rattle.tab_history.specs.Answers.{is_open};
 ghost use Rattle.tab_core.specs.Slots.{are_full};
 ghost use Rattle.tab_book.specs.HandedOut.{session_in};
 ghost use Rattle.tab_book.specs.Receipts.{Receives};
 ghost use Rattle.tab_book.specs.Rotating.{rotation};
 ghost use Rattle.tab_serve.specs.Serves.{asked_at};
+ghost use Rattle.tab_wire.specs.Requests.{request_in};
 ghost use Rattle.tab_work.specs.Receiving.{HandsOut, spent};
 ghost use Rattle.tab_work.specs.SharedAnswers.{seated, slots_of, told_by, LentSame, SharedAnswers, Tells, Takes, Tries};
 
@@ -61,8 +62,8 @@ impl<'a, L: Ledger, R: Threads + Wait + Sync, M: Moments, G: Gate> Service
         self.gate.hear(asked);
     }
 
-    fn answer(&mut self, user: &Name, request: &mut Request) {
-        self.does(user, request);
+    fn answer(&mut self, user: &Name, request: &mut Request, frame: &[u8]) {
+        self.does(user, request, frame);
         self.gate.after_reply(self.reply());
     }
 
@@ -76,12 +77,13 @@ impl<'a, L: Ledger, R: Threads + Wait + Sync, M: Moments, G: Gate> Service
 
 impl<'a, L: Ledger, R: Threads + Wait + Sync, M: Moments, G: Gate> SharedService<'a, L, R, M, G> {
     // Does what is asked. Hello says who asks, and changes nothing.
-    pub(crate) fn does(&mut self, user: &Name, request: &mut Request)
+    pub(crate) fn does(&mut self, user: &Name, request: &mut Request, frame: &[u8])
+        requires { request_in frame.now ≡ Some request.old }
         ensures { SharedAnswers M.gives self.old user.now request.old (told_by self.new) self.new }
     {
         match request {
             Request::Hello(_) => self.tell(Reply::Done),
-            Request::Act(act) => self.act(user, act),
+            Request::Act(act) => self.act(user, act, frame),
             Request::Next { slot, count } => {
                 self.gate.before_batch();
                 let reply = self.slots.next(self.alloc, *slot, *count);
@@ -115,20 +117,22 @@ impl<'a, L: Ledger, R: Threads + Wait + Sync, M: Moments, G: Gate> SharedService
     }
 
     // An event at the next moment. An Open past the limit of sessions takes no moment, and doesn't happen.
-    fn act(&mut self, user: &Name, act: &mut Act)
+    fn act(&mut self, user: &Name, act: &mut Act, frame: &[u8])
+        requires { request_in frame.now ≡ Some (Request.Act act.old) }
         ensures { SharedAnswers M.gives self.old user.now (Request.Act act.old) (told_by self.new) self.new }
     {
         if !opens(act) {
-            self.apply(user, act)
+            self.apply(user, act, frame)
         } else if self.slots.are_full() {
             self.tell(Reply::Refused(Refusal::TooLarge(LimitedPart::Sessions)))
         } else {
-            self.open_next(user, act)
+            self.open_next(user, act, frame)
         }
     }
 
     // An Open where one more session can be opened, which is kept under the next number. A place for it is found before the event.
-    fn open_next(&mut self, user: &Name, act: &mut Act)
+    fn open_next(&mut self, user: &Name, act: &mut Act, frame: &[u8])
+        requires framed { request_in frame.now ≡ Some (Request.Act act.old) }
         requires opens { is_open act.old ≡ true }
         requires room { are_full self.old.slots.now ≡ false }
         ensures { SharedAnswers M.gives self.old user.now (Request.Act act.old) (told_by self.new) self.new }
@@ -137,17 +141,18 @@ impl<'a, L: Ledger, R: Threads + Wait + Sync, M: Moments, G: Gate> SharedService
         if self.slots.prepare().is_err() {
             return self.lack();
         }
-        let session = self.receive(user, moment, act);
+        let session = self.receive(user, moment, act, frame);
         self.slots.keep(session);
     }
 
     // An event that opens no session.
-    fn apply(&mut self, user: &Name, act: &mut Act)
-        requires { is_open act.old ≡ false }
+    fn apply(&mut self, user: &Name, act: &mut Act, frame: &[u8])
+        requires framed { request_in frame.now ≡ Some (Request.Act act.old) }
+        requires other { is_open act.old ≡ false }
         ensures { SharedAnswers M.gives self.old user.now (Request.Act act.old) (told_by self.new) self.new }
     {
         let moment = self.take_moment();
-        let _ = self.receive(user, moment, act);
+        let _ = self.receive(user, moment, act, frame);
     }
 
     // The next moment.
@@ -161,7 +166,8 @@ impl<'a, L: Ledger, R: Threads + Wait + Sync, M: Moments, G: Gate> SharedService
 
     // Has the book do what the user asks at the moment, tells its reply, and adds its receipt, for which a place is found before. The session
     // that it handed out.
-    fn receive(&mut self, user: &Name, moment: i64, act: &mut Act) -> Option<Session>
+    fn receive(&mut self, user: &Name, moment: i64, act: &mut Act, frame: &[u8]) -> Option<Session>
+        requires { request_in frame.now ≡ Some (Request.Act act.old) }
         ensures tries { Tries (seated self.old) (asked_at user.now moment act.old) (told_by self.new) result (seated self.new) }
         ensures slots { slots_of self.new ≡ slots_of self.old }
         ensures lent { LentSame self.old self.new }
@@ -178,6 +184,7 @@ impl<'a, L: Ledger, R: Threads + Wait + Sync, M: Moments, G: Gate> SharedService
             user,
             moment,
             act,
+            frame,
         ) {
             Ok(receipt) => self.add(receipt),
             Err(AllocError) => {
@@ -222,7 +229,9 @@ fn ask<L: Ledger, R: Wait>(
     user: &Name,
     moment: i64,
     act: &mut Act,
+    frame: &[u8],
 ) -> Result<Receipt<L>, AllocError>
+    requires { request_in frame.now ≡ Some (Request.Act act.old) }
     ensures ok { IfOk result (λ r. Receives seat.old (asked_at user.now moment act.old) r seat.new) }
     ensures hands { IfOk result (λ r. HandsOut act.old (session_in r.held)) }
     ensures err { OnErr result (seat.new ≡ seat.old) }
@@ -230,7 +239,7 @@ fn ask<L: Ledger, R: Wait>(
     if rotates(act) {
         rotate(rt, alloc, shared, seat, user, moment)
     } else {
-        shared.apply_lent(rt, alloc, seat, user, moment, act)
+        shared.apply_asked(rt, alloc, seat, user, moment, act, frame)
     }
 }
 
