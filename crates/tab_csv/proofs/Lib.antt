@@ -1,0 +1,4 @@
+pub mod NumberLemmas
+pub mod FieldLemmas
+pub mod LabelLemmas
+pub mod RowLemmas
