@@ -1,4 +1,5 @@
 //! The command line, built.
+use crate::importing::import_command;
 use crate::looking::{export_command, inspect_command};
 use clap::builder::ValueParser;
 use clap::{Arg, ArgAction, ArgGroup, Command, Error, value_parser};
@@ -6,7 +7,7 @@ use std::alloc::{AllocError, Global};
 use tab_help::{Asks, Forms, Kinds, forms};
 
 /// The version that `tabd --version` tells.
-const VERSION: &str = "0.18.0";
+const VERSION: &str = "0.19.0";
 
 /// What help says of lines: the texts of `tab_help`.
 #[derive(Drop)]
@@ -64,7 +65,8 @@ pub fn command<'a>(alloc: Global, lines: &'a LineHelp) -> Result<Command<'a>, Er
         .subcommand(serve_command(alloc)?)?
         .subcommand(shell_command(alloc, lines)?)?
         .subcommand(inspect_command(alloc)?)?
-        .subcommand(export_command(alloc)?)?;
+        .subcommand(export_command(alloc)?)?
+        .subcommand(import_command(alloc)?)?;
     Ok(tabd)
 }
 
@@ -73,7 +75,7 @@ fn explain<'a>(alloc: Global) -> Arg<'a> {
     Arg::new(alloc, "explain")
         .long("explain")
         .action(ArgAction::SetTrue)
-        .help("Says on standard error why a line is a line fault")
+        .help("Explains each line fault on standard error")
 }
 
 // Whether a run stops at the first fault or refusal.
@@ -140,9 +142,7 @@ fn sync<'a>(alloc: Global) -> Result<Arg<'a>, AllocError> {
         .value_name("WHEN")
         .value_parser(ValueParser::Names(&["always", "interval"]))
         .default_value("always")
-        .help(
-            "When it is on the disk: always, before anything is answered, or in an interval of a second",
-        )
+        .help("When to sync: always (before each answer) or interval (once a second)")
         .requires_arg("store")
 }
 
@@ -257,7 +257,7 @@ fn accept<'a>(alloc: Global) -> Arg<'a> {
         .value_name("K")
         .value_parser(value_parser!(u32))
         .default_value("0")
-        .help("Ends after this many connections, or never for 0")
+        .help("Exits after this many connections; 0: never")
 }
 
 // How long a connection may say nothing.
@@ -267,9 +267,7 @@ fn idle<'a>(alloc: Global) -> Arg<'a> {
         .value_name("SECONDS")
         .value_parser(value_parser!(u32))
         .default_value("600")
-        .help(
-            "Ends a connection that says nothing, or takes nothing of what it is told, for so long, or never for 0",
-        )
+        .help("Closes a connection idle for this many seconds; 0: never")
 }
 
 // The file of a server's history.

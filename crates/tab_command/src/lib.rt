@@ -3,18 +3,20 @@
 //! | File | What |
 //! |---|---|
 //! | `building` | the command line, built, and the texts of its help |
-//! | `looking` | the command lines of `inspect` and `export` |
+//! | `looking`, `importing` | the command lines of `inspect` and `export`, and of `import` |
 //! | `request` | what the words ask for |
 //!
 //! Nothing is done here: the program does what a [`Request`] says.
 #![tactic(auto)]
 
 mod building;
+mod importing;
 mod looking;
 mod request;
 
 pub use building::LineHelp;
-pub use looking::{ExportRequest, InspectRequest};
+pub use importing::ImportRequest;
+pub use looking::{ExportForm, ExportRequest, InspectRequest};
 pub use request::{
     Request, ScriptRequest, ServeRequest, ServerAddress, ShellRequest, SyncMode, parse,
 };

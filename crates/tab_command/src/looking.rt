@@ -11,13 +11,24 @@ pub struct InspectRequest<'a> {
     pub progress: bool,
 }
 
+/// What an image is exported as.
+#[derive(Clone, Copy, Debug, PartialEq, Eq)]
+pub enum ExportForm {
+    /// Lines of a script.
+    Script,
+    /// Lines of Accumulo's shell.
+    Accumulo,
+    /// CSV.
+    Csv,
+}
+
 /// What `tabd export` is asked for.
 #[derive(Clone, Copy)]
 pub struct ExportRequest<'a> {
     /// The file of the image, or the folder.
     pub path: &'a str,
-    /// Whether lines are written for Accumulo's shell, and not for a script.
-    pub accumulo: bool,
+    /// What is written.
+    pub form: ExportForm,
     /// Whether standard error has how far it has come.
     pub progress: bool,
 }
@@ -32,8 +43,19 @@ pub(crate) fn inspect_request<'a>(inspect: &ArgMatches<'a>) -> InspectRequest<'a
 pub(crate) fn export_request<'a>(export: &ArgMatches<'a>) -> ExportRequest<'a> {
     ExportRequest {
         path: export.get_str("path").unwrap_or(""),
-        accumulo: export.get_flag("accumulo"),
+        form: form_in(export),
         progress: export.get_flag("progress"),
+    }
+}
+
+// What it is exported as.
+fn form_in(export: &ArgMatches<'_>) -> ExportForm {
+    if export.get_flag("csv") {
+        ExportForm::Csv
+    } else if export.get_flag("accumulo") {
+        ExportForm::Accumulo
+    } else {
+        ExportForm::Script
     }
 }
 
@@ -52,10 +74,16 @@ pub(crate) fn export_command<'a>(alloc: Global) -> Result<Command<'a>, Error> {
         .long("accumulo")
         .action(ArgAction::SetTrue)
         .help("Writes lines of Apache Accumulo's shell");
+    let csv = Arg::new(alloc, "csv")
+        .long("csv")
+        .action(ArgAction::SetTrue)
+        .help("Writes CSV: a line for each record that is stored")
+        .conflicts_with("accumulo")?;
     let export = Command::new(alloc, "export")
         .about("Writes an image, or the folder of a store, as lines of a script that make it again")
         .arg(path(alloc))?
         .arg(accumulo)?
+        .arg(csv)?
         .arg(progress(alloc))?;
     Ok(export)
 }
@@ -70,7 +98,7 @@ fn path<'a>(alloc: Global) -> Arg<'a> {
 }
 
 // Whether it is told how far the work has come.
-fn progress<'a>(alloc: Global) -> Arg<'a> {
+pub(crate) fn progress<'a>(alloc: Global) -> Arg<'a> {
     Arg::new(alloc, "progress")
         .long("progress")
         .action(ArgAction::SetTrue)

@@ -1,5 +1,6 @@
 //! What a command line asks for.
 use crate::building::{LineHelp, command};
+use crate::importing::{ImportRequest, import_request};
 use crate::looking::{ExportRequest, InspectRequest, export_request, inspect_request};
 use clap::{ArgMatches, Error};
 use std::alloc::Global;
@@ -17,6 +18,8 @@ pub enum Request<'a> {
     Inspect(InspectRequest<'a>),
     /// `tabd export`.
     Export(ExportRequest<'a>),
+    /// `tabd import`.
+    Import(ImportRequest<'a>),
     /// None of them. The command line asks for one, so this is never read.
     Nothing,
 }
@@ -131,6 +134,9 @@ fn requested<'a>(matches: &ArgMatches<'a>) -> Request<'a> {
     }
     if let Some(export) = matches.subcommand_matches("export") {
         return Request::Export(export_request(export));
+    }
+    if let Some(import) = matches.subcommand_matches("import") {
+        return Request::Import(import_request(import));
     }
     match matches.subcommand_matches("shell") {
         Some(shell) => Request::Shell(shell_request(shell)),

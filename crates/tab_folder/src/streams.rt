@@ -57,29 +57,36 @@ impl<R: Read> Read for Logged<'_, R> {
     }
 }
 
-/// A writer that sees a journal on the disk before it writes.
+/// A writer that sees a journal on the disk before it writes, and as it is flushed, where a quiet script has written nothing.
 #[derive(Drop)]
 pub struct SyncedWriter<'a, W> {
     writer: W,
-    log: &'a ScriptLog,
+    log: Option<&'a ScriptLog>,
 }
 
 impl<'a, W> SyncedWriter<'a, W> {
-    /// Over this writer.
-    pub fn new(writer: W, log: &'a ScriptLog) -> SyncedWriter<'a, W> {
+    /// Over this writer, with this journal, if there is one.
+    pub fn new(writer: W, log: Option<&'a ScriptLog>) -> SyncedWriter<'a, W> {
         SyncedWriter { writer, log }
+    }
+
+    // Sees the journal on the disk.
+    fn settle(&self) -> io::Result<()> {
+        let Some(log) = self.log else {
+            return Ok(());
+        };
+        log.settle().map_err(|_| Error::from(ErrorKind::Other))
     }
 }
 
 impl<W: Write> Write for SyncedWriter<'_, W> {
     fn write(&mut self, buf: &[u8]) -> io::Result<usize> {
-        if self.log.settle().is_err() {
-            return Err(Error::from(ErrorKind::Other));
-        }
+        self.settle()?;
         self.writer.write(buf)
     }
 
     fn flush(&mut self) -> io::Result<()> {
+        self.settle()?;
         self.writer.flush()
     }
 }

@@ -45,8 +45,8 @@ pub const DEEDS: &str = "  as           Later lines are this user's.
   createtable  Makes a table.
   droptable    Drops a table, with its cells and all rights on it.
   createuser   Makes a user.
-  dropuser     Drops a user, with his rights and authorizations.
-  setauths     Gives a user these authorizations in place of those that he holds.
+  dropuser     Drops a user, with their rights and authorizations.
+  setauths     Gives a user these authorizations in place of those that the user holds.
   grant        Gives a user a permission.
   revoke       Takes a permission from a user.
   rights       Tells your own permissions, those on a table among them, and your authorizations.

@@ -72,7 +72,11 @@ fn put_line<W: Output>(output: &mut W, asks: Asks, command: &[u8]) -> Result<(),
         _ => command,
     };
     if row_of(OWN_LINES, own).is_none() {
-        return output.put(b"  there is no such line: help lists them\n");
+        return output.put(if asks.has(command) {
+            b"  there is no such line: help lists them\n"
+        } else {
+            b"  this line is a script's alone: help lists a shell's\n"
+        });
     }
     put_deed(output, OWN_DEEDS, own)?;
     put_rows(output, OWN_LINES, own)

@@ -5,12 +5,15 @@ use crate::unfinished_files::{UnfinishedFile, begin};
 use std::alloc::{AllocError, Global};
 use std::fs;
 use std::fs::File;
-use std::io::{Error, ErrorKind, Read, Write};
+use std::io::{Error, ErrorKind, Read, Seek, SeekFrom, Write};
 use std::path::Path;
 use tab_core::Core;
 use tab_io::{BlockReader, BlockWriter, Output};
 use tab_loading::LoadFault;
 use tab_saving::SaveFault;
+
+// What an image begins with.
+const MAGIC: &[u8] = b"TABIMG";
 
 /// Why an image isn't saved under a name. What the name had before, it has still.
 #[derive(Clone, Copy, Debug, thiserror::Error)]
@@ -59,6 +62,9 @@ pub enum NotLoaded {
     /// The file holds no image.
     #[error("this is no image")]
     Bad,
+    /// The file begins as an image, and isn't one.
+    #[error("the image is cut short or damaged")]
+    Damaged,
     /// The file has another checksum than the one beside it says.
     #[error("differs from its checksum")]
     Differs,
@@ -70,14 +76,25 @@ impl From<AllocError> for NotLoaded {
     }
 }
 
-/// Why no image is loaded from a stream that has told this reason last, if any.
-pub(crate) fn not_loaded(fault: LoadFault, reason: Option<Error>) -> NotLoaded {
+/// Why no image is loaded from a file, the stream of which has told this reason last, if any.
+pub(crate) fn not_loaded(file: &File, fault: LoadFault, reason: Option<Error>) -> NotLoaded {
     match fault {
         LoadFault::Io => unread(reason),
         LoadFault::NoMemory => NotLoaded::NoMemory,
         LoadFault::Version(version) => NotLoaded::Version(version),
+        LoadFault::Bad if begins_as_image(file) => NotLoaded::Damaged,
         LoadFault::Bad => NotLoaded::Bad,
     }
+}
+
+// Whether the file's first bytes are an image's. Of a pipe that isn't known any more.
+fn begins_as_image(file: &File) -> bool {
+    let mut stream = file;
+    let mut front = [0; MAGIC.len()];
+    let read = stream
+        .seek(SeekFrom::Start(0))
+        .is_ok_and(|_| stream.read_exact(&mut front).is_ok());
+    read && front.as_slice() == MAGIC
 }
 
 /// A read that failed for this reason, if one is known.
@@ -91,10 +108,10 @@ pub(crate) fn unread(reason: Option<Error>) -> NotLoaded {
 pub fn load(rt: &HostRuntime, name: &str) -> Result<Core, NotLoaded> {
     let file = File::open(rt, name).map_err(NotLoaded::Io)?;
     compare(rt, name, &file)?;
-    let mut stream = Noting::new(file);
+    let mut stream = Noting::new(&file);
     match read(rt.alloc(), &mut stream) {
         Ok(core) => Ok(core),
-        Err(fault) => Err(not_loaded(fault, stream.failure())),
+        Err(fault) => Err(not_loaded(&file, fault, stream.failure())),
     }
 }
 

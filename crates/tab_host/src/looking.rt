@@ -37,10 +37,10 @@ pub fn look(rt: &HostRuntime, name: &str, progress: &Progress<'_>) -> Result<Loo
 // Reads the image in the file.
 fn look_at(rt: &HostRuntime, file: File, progress: &Progress<'_>) -> Result<Looked, NotLoaded> {
     let bytes = file.metadata().map_err(NotLoaded::Io)?.len();
-    let mut stream = Noting::new(ProgressStream::new(file, progress, "reading", bytes));
+    let mut stream = Noting::new(ProgressStream::new(&file, progress, "reading", bytes));
     match read(rt.alloc(), &mut stream, bytes) {
         Ok(looked) => Ok(looked),
-        Err(fault) => Err(not_loaded(fault, stream.failure())),
+        Err(fault) => Err(not_loaded(&file, fault, stream.failure())),
     }
 }
 

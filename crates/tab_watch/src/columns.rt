@@ -2,6 +2,7 @@
 use crate::kinds::{ReplyKind, kind_of};
 use std::alloc::{AllocError, Global};
 use std::io::Write;
+use std::mem::replace;
 use std::{io, str};
 use tab_io::{BLOCK_LENGTH, length_before};
 use tab_terminal::shown_word;
@@ -16,8 +17,9 @@ const WIDEST: usize = 24;
 // Spaces to fill a column with.
 const SPACES: &[u8] = b"                          ";
 
-/// A writer for a terminal: what is written is handed on once the writer is flushed, or there is a block of it, with the words of cells
-/// one under the other and as `shown_word` has them. What is no cell is handed on as it is; where memory lacks, all is.
+/// A writer for a terminal: what is written is handed on once the writer is flushed, or, of the lines that have ended, once there is a block
+/// of it, with the words of cells one under the other, block by block, and as `shown_word` has them. What is no cell is handed on as it is;
+/// where memory lacks, all is.
 #[derive(Drop)]
 pub struct Columns<W> {
     alloc: Global,
@@ -39,13 +41,41 @@ impl<W: Write> Columns<W> {
 
     // Hands on all that is here.
     fn put(&mut self) -> io::Result<()> {
-        let text = self.text.as_slice();
-        match lay_out(self.alloc, text) {
-            Ok(laid) => self.inner.write_all(laid.as_slice())?,
-            Err(_) => self.inner.write_all(text)?,
+        let text = replace(&mut self.text, Vec::new(self.alloc));
+        self.put_laid(text.as_slice())
+    }
+
+    // Hands on the lines that have ended. The beginning of the next one stays here; where memory lacks for it, it is handed on too.
+    fn put_lines(&mut self) -> io::Result<()> {
+        let count = length_of_lines(self.text.as_slice());
+        if count == 0 {
+            return Ok(());
         }
-        self.text.clear();
+        let text = replace(&mut self.text, Vec::new(self.alloc));
+        let (lines, begun) = text
+            .split_at_checked(count)
+            .unwrap_or((text.as_slice(), b""));
+        self.put_laid(lines)?;
+        if self.text.extend_from_slice(begun).is_err() {
+            return self.inner.write_all(begun);
+        }
         Ok(())
+    }
+
+    // Hands on this text, with the cells in columns.
+    fn put_laid(&mut self, text: &[u8]) -> io::Result<()> {
+        match lay_out(self.alloc, text) {
+            Ok(laid) => self.inner.write_all(laid.as_slice()),
+            Err(_) => self.inner.write_all(text),
+        }
+    }
+}
+
+// How many bytes of a text its lines have that have ended.
+fn length_of_lines(text: &[u8]) -> usize {
+    match text.iter().rposition(|byte| *byte == b'\n') {
+        Some(last) => last.saturating_add(1),
+        None => 0,
     }
 }
 
@@ -117,7 +147,10 @@ impl<W: Write> Write for Columns<W> {
         if !self.on {
             return self.inner.write(buf);
         }
-        if self.text.len() >= BLOCK_LENGTH || self.text.extend_from_slice(buf).is_err() {
+        if self.text.len() >= BLOCK_LENGTH {
+            self.put_lines()?;
+        }
+        if self.text.extend_from_slice(buf).is_err() {
             self.put()?;
             return self.inner.write(buf);
         }

@@ -35,11 +35,13 @@ impl Display for LineCounts {
     }
 }
 
-/// Where a run stands: the line that is being answered, counted from 1, and whether the run has stopped. Its reader and its writer share it.
+/// Where a run stands: the line that is being answered, counted from 1, whether more was read behind it, and whether the run has stopped.
+/// Its reader and its writer share it.
 #[derive(Drop)]
 pub struct Course {
     watch: RunOptions,
     line: Cell<u64>,
+    more: Cell<bool>,
     stopped: Cell<bool>,
 }
 
@@ -49,6 +51,7 @@ impl Course {
         Course {
             watch,
             line: Cell::new(0),
+            more: Cell::new(false),
             stopped: Cell::new(false),
         }
     }
@@ -76,6 +79,16 @@ impl Course {
     /// The run stops at this line.
     pub fn stop(&self) {
         self.stopped.set(true);
+    }
+
+    /// Whether the run goes on with what was read already: nothing is waited for before the next answer.
+    pub(crate) fn has_more(&self) -> bool {
+        self.more.get() && !self.stopped.get()
+    }
+
+    /// Whether more was read than was handed on.
+    pub(crate) fn set_more(&self, more: bool) {
+        self.more.set(more);
     }
 
     /// The next line is read.

@@ -4,7 +4,7 @@ use crate::kinds::{ReplyKind, kind_of};
 use std::alloc::Global;
 use std::io;
 use std::io::Write;
-use tab_io::length_before;
+use tab_io::{BLOCK_LENGTH, length_before};
 
 // The reply of which a quiet run says nothing.
 const DONE: &[u8] = b"ok\n";
@@ -15,11 +15,15 @@ const KEPT: usize = 8192;
 /// A writer that hands the replies of a run on to another one, counts its refusals and faults, and stops a strict run at the first. Of a quiet
 /// run it hands those replies on that aren't `ok` alone. Where nothing is asked of the run it hands on all that is written.
 ///
+/// It looks at each reply at once, and hands them on by blocks, or once it is flushed and the run has to read anew: so a flush behind each
+/// line costs nothing. Where memory lacks for a block they are handed on at once.
+///
 /// It keeps the line that is being written, 8,192 bytes at most; where memory lacks for it, what that line says isn't known.
 #[derive(Drop)]
 pub struct Replies<'a, W> {
     course: &'a Course,
     inner: W,
+    gathered: Vec<u8>,
     answered: u64,
     held: usize,
     line: Vec<u8>,
@@ -33,6 +37,7 @@ impl<'a, W: Write> Replies<'a, W> {
         Replies {
             course,
             inner,
+            gathered: Vec::new(alloc),
             answered: 0,
             held: 0,
             line: Vec::new(alloc),
@@ -74,9 +79,28 @@ impl<'a, W: Write> Replies<'a, W> {
     fn release(&mut self) -> io::Result<()> {
         let held = DONE.get(..self.held).unwrap_or(DONE);
         self.held = 0;
-        self.inner.write_all(held)?;
+        self.gather(held)?;
         self.look(held);
         Ok(())
+    }
+
+    // Gathers bytes that are to be handed on.
+    fn gather(&mut self, bytes: &[u8]) -> io::Result<()> {
+        if self.gathered.len().saturating_add(bytes.len()) > BLOCK_LENGTH {
+            self.hand_on()?;
+        }
+        if bytes.len() >= BLOCK_LENGTH || self.gathered.extend_from_slice(bytes).is_err() {
+            self.hand_on()?;
+            return self.inner.write_all(bytes);
+        }
+        Ok(())
+    }
+
+    // Hands on what is gathered.
+    fn hand_on(&mut self) -> io::Result<()> {
+        let outcome = self.inner.write_all(self.gathered.as_slice());
+        self.gathered.clear();
+        outcome
     }
 
     // Looks at bytes that were handed on.
@@ -143,12 +167,16 @@ impl<W: Write> Write for Replies<'_, W> {
         if self.held > 0 {
             self.release()?;
         }
-        let count = self.inner.write(buf)?;
-        self.look(&buf[..count]);
-        Ok(count)
+        self.gather(buf)?;
+        self.look(buf);
+        Ok(buf.len())
     }
 
     fn flush(&mut self) -> io::Result<()> {
+        if self.course.has_more() {
+            return Ok(());
+        }
+        self.hand_on()?;
         self.inner.flush()
     }
 }

@@ -56,6 +56,7 @@ impl<'a, R: Read> Steps<'a, R> {
         let count = copy_line(self.block.as_slice(), self.given, buf);
         self.given = self.given.saturating_add(count);
         self.begun = !ends_line(self.block.as_slice(), self.given);
+        self.course.set_more(self.given < self.block.len());
         count
     }
 }
