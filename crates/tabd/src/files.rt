@@ -64,14 +64,13 @@ fn not_saved(rt: &HostRuntime, name: &str, fault: NotSaved) -> SaveFault {
     }
 }
 
-// What a line is told of a load that failed; standard error has it where the image isn't the one that was saved.
+// What a line is told of a load that failed; standard error has why the file isn't read, or that the image isn't the one that was saved.
 fn not_loaded(rt: &HostRuntime, name: &str, fault: NotLoaded) -> LoadFault {
     match fault {
-        NotLoaded::Io(_) | NotLoaded::NoSum(_) => LoadFault::Io,
         NotLoaded::NoMemory => LoadFault::NoMemory,
         NotLoaded::Version(version) => LoadFault::Version(version),
-        NotLoaded::Bad => LoadFault::Bad,
-        NotLoaded::Differs => {
+        NotLoaded::Bad | NotLoaded::Damaged => LoadFault::Bad,
+        NotLoaded::Io(_) | NotLoaded::NoSum(_) | NotLoaded::Differs => {
             let _ = eprintln!(rt; "fault: {}: {fault}", Escaped(&name));
             LoadFault::Io
         }

@@ -172,25 +172,34 @@ fn append<L: Ledger>(alloc: Global, file: &File, part: &Part<L>) -> Result<(), L
 // Writes the part, down to the disk.
 fn write<L: Ledger>(alloc: Global, file: &File, part: &Part<L>) -> Result<(), LogFault> {
     let mut output = BlockWriter::new(alloc, file)?;
-    put_part(&mut output, part)?;
+    put_part(alloc, &mut output, part)?;
     output.flush()?;
     file.sync_all().map_err(|_| LogFault::Write)
 }
 
 // Puts the entries of the part, one after the other.
-fn put_part<L: Ledger, W: Output>(output: &mut W, part: &Part<L>) -> Result<(), LogFault> {
+fn put_part<L: Ledger, W: Output>(
+    alloc: Global,
+    output: &mut W,
+    part: &Part<L>,
+) -> Result<(), LogFault> {
     let mut clock = part.base().clock();
     for place in 0..part.len() {
         if let Some(entry) = part.entry(place) {
-            clock = put_kept(output, clock, entry)?;
+            clock = put_kept(alloc, output, clock, entry)?;
         }
     }
     Ok(())
 }
 
 // Puts an entry, and gives the clock behind it.
-fn put_kept<W: Output>(output: &mut W, clock: i64, entry: &RecordedEntry) -> Result<i64, LogFault> {
-    let event = entry.event().to_event()?;
+fn put_kept<W: Output>(
+    alloc: Global,
+    output: &mut W,
+    clock: i64,
+    entry: &RecordedEntry,
+) -> Result<i64, LogFault> {
+    let event = entry.event().to_event(alloc)?;
     let (done, opened) = (EventReply::Done, EventReply::Opened);
     let told = match entry.reply() {
         RecordedReply::Done => &done,

@@ -3,7 +3,7 @@ use crate::escaped::Escaped;
 use crate::files::Disk;
 use std::io::{Read, Write};
 use tab_core::Core;
-use tab_folder::{Folder, FolderFault, KeptLoad, Logged, ScriptLog, SyncedWriter};
+use tab_folder::{Folder, FolderFault, KeptLoad, Logged, ScriptLog};
 use tab_io::{BlockReader, BlockWriter};
 use tab_prog::{FileName, Files, LoadFault, ProgramFault, SaveFault, script_on};
 use tab_shell::Script;
@@ -33,7 +33,12 @@ impl<'a> Keeping<'a> {
         }
     }
 
-    /// Answers the lines of the reader on the writer. Nothing is written before the lines that it answers are on the disk.
+    /// The journal into which the lines go.
+    pub fn log(&self) -> &'a ScriptLog {
+        self.log
+    }
+
+    /// Answers the lines of the reader on the writer, which is to see the journal on the disk before it hands an answer on.
     pub fn answer<R: Read + Drop, W: Write + Drop>(
         self,
         rt: &HostRuntime,
@@ -43,8 +48,7 @@ impl<'a> Keeping<'a> {
         let Ok(mut input) = BlockReader::new(rt.alloc(), Logged::new(reader, self.log)) else {
             return Err(ProgramFault::NoMemory);
         };
-        let Ok(mut output) = BlockWriter::new(rt.alloc(), SyncedWriter::new(writer, self.log))
-        else {
+        let Ok(mut output) = BlockWriter::new(rt.alloc(), writer) else {
             return Err(ProgramFault::NoMemory);
         };
         let mut files = KeptFiles {

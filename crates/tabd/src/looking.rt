@@ -4,6 +4,7 @@ use anyhow::Context;
 use std::fs;
 use std::io::{IsTerminal, Write};
 use tab_accumulo::{left_out, put_shell_lines};
+use tab_csv::write_csv;
 use tab_export::{put_script, server_records};
 use tab_folder::{FolderFault, Format, Left, Look};
 use tab_host::{Looked, Noting, Progress, ProgressStream, look};
@@ -21,6 +22,8 @@ pub enum Form {
     Script,
     /// Lines of Accumulo's shell.
     Accumulo,
+    /// CSV.
+    Csv,
 }
 
 // What an image says, which file it stands in, and of a folder what stands in the journals behind it, which the image has done then.
@@ -59,7 +62,7 @@ pub fn run_look(rt: &HostRuntime, path: &str, form: Form, asked: bool) -> anyhow
 // How many things of the image can't be written in this form.
 fn omitted(image: &Image, form: Form) -> u64 {
     match form {
-        Form::Facts | Form::Script => 0,
+        Form::Facts | Form::Script | Form::Csv => 0,
         Form::Accumulo => left_out(image),
     }
 }
@@ -139,14 +142,20 @@ fn write<W: Write + Drop>(
     seen: &Seen,
     form: Form,
 ) -> Result<(), ProgramFault> {
+    let image = &seen.looked.image;
+    if form == Form::Csv {
+        return write_csv(writer, image)
+            .map(|_| ())
+            .map_err(|_| ProgramFault::Write);
+    }
     let Ok(mut output) = BlockWriter::new(rt.alloc(), writer) else {
         return Err(ProgramFault::NoMemory);
     };
-    let image = &seen.looked.image;
     match form {
         Form::Facts => put_seen(rt, &mut output, seen)?,
         Form::Script => put_lines(rt, &mut output, image)?,
         Form::Accumulo => put_shell_lines(&mut output, image).map_err(|_| ProgramFault::Write)?,
+        Form::Csv => {}
     }
     output.flush().map_err(|_| ProgramFault::Write)
 }

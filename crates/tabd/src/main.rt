@@ -13,6 +13,7 @@
 //! | `telling`, `metrics`, `counts` | what a server tells beside its answers, what it tells of itself, in a file, and what it asks of the disk |
 //! | `status` | what the system tells of the program itself |
 //! | `looking`, `replayed_image` | `tabd inspect` and `tabd export`, and what a folder keeps for them |
+//! | `importing` | `tabd import` |
 //! | `files` | images in files, as lines and the command line name them |
 //! | `escaped` | what is told on a line of standard error |
 #![tactic(auto)]
@@ -23,6 +24,7 @@ mod escaped;
 mod files;
 mod folder_store;
 mod history;
+mod importing;
 mod keeping;
 mod line_replay;
 mod looking;
@@ -42,6 +44,7 @@ use anyhow::Context;
 use clap::Error;
 use closed_streams::ClosedStreams;
 use escaped::Escaped;
+use importing::run_import;
 use looking::{Form, run_look};
 use scripting::{Style, run_kept, run_script};
 use serving::run_serve;
@@ -53,7 +56,8 @@ use std::sync::Wait;
 use std::thread::Threads;
 use std::time::{Clock, Duration};
 use tab_command::{
-    ExportRequest, LineHelp, Request, ScriptRequest, ServeRequest, ShellRequest, parse,
+    ExportForm, ExportRequest, ImportRequest, LineHelp, Request, ScriptRequest, ServeRequest,
+    ShellRequest, parse,
 };
 use tab_key::Name;
 use tab_prog::ProgramFault;
@@ -135,16 +139,17 @@ fn asked<R: Threads + Wait + Clock + Sync>(
             Ok(ExitCode::SUCCESS)
         }
         Request::Export(export) => exported(rt, export),
+        Request::Import(import) => imported(rt, import),
         Request::Nothing => Ok(ExitCode::SUCCESS),
     }
 }
 
 // Writes an image as lines; says on standard error how many things they leave out, if any, and that is a status of its own.
 fn exported(rt: &HostRuntime, export: ExportRequest<'_>) -> anyhow::Result<ExitCode> {
-    let form = if export.accumulo {
-        Form::Accumulo
-    } else {
-        Form::Script
+    let form = match export.form {
+        ExportForm::Script => Form::Script,
+        ExportForm::Accumulo => Form::Accumulo,
+        ExportForm::Csv => Form::Csv,
     };
     let left = run_look(rt, export.path, form, export.progress)?;
     if left == 0 {
@@ -154,13 +159,25 @@ fn exported(rt: &HostRuntime, export: ExportRequest<'_>) -> anyhow::Result<ExitC
     Ok(ExitCode::from(LEFT_OUT))
 }
 
+// Writes CSV as lines.
+fn imported(rt: &HostRuntime, import: ImportRequest<'_>) -> anyhow::Result<ExitCode> {
+    let table = match import.table {
+        Some(text) => Name::new(text.as_bytes()),
+        None => None,
+    };
+    if import.table.is_some() && table.is_none() {
+        return Ok(refused(rt, "the table isn't a name: 1 to 128 of a-z A-Z 0-9 _ - ."));
+    }
+    run_import(rt, import, &table)
+}
+
 // Runs a script.
 fn scripted(rt: &HostRuntime, script: ScriptRequest<'_>) -> anyhow::Result<ExitCode> {
     let watch = RunOptions {
         strict: script.strict,
         quiet: script.quiet,
     };
-    let style = style_of(script.prompted, script.explained);
+    let style = style_of(script.prompted, script.explained || script.strict);
     match script.store {
         Some(folder) => {
             tell_file_limit(rt);
@@ -170,7 +187,7 @@ fn scripted(rt: &HostRuntime, script: ScriptRequest<'_>) -> anyhow::Result<ExitC
     }
 }
 
-// What goes with the lines: prompts explain line faults too.
+// What goes with the lines: prompts explain line faults too, and a strict run explains the one at which it stops.
 fn style_of(prompted: bool, explained: bool) -> Style {
     match (prompted, explained) {
         (true, _) => Style::Prompted,
@@ -207,7 +224,7 @@ fn shelled(rt: &HostRuntime, shell: ShellRequest<'_>) -> anyhow::Result<ExitCode
     let way = Way {
         place: shell.place,
         patience: Duration::from_secs(shell.timeout as u64),
-        style: style_of(shell.prompted, shell.explained),
+        style: style_of(shell.prompted, shell.explained || shell.strict),
         watch: RunOptions {
             strict: shell.strict,
             quiet: shell.quiet,

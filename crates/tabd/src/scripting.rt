@@ -7,7 +7,7 @@ use anyhow::Context;
 use std::io::{IsTerminal, Read, Write};
 use std::process::ExitCode;
 use tab_core::Core;
-use tab_folder::{Format, ScriptLog};
+use tab_folder::{Format, ScriptLog, SyncedWriter};
 use tab_help::{Asks, Explaining, Prompting};
 use tab_host::Noting;
 use tab_io::{BlockReader, BlockWriter};
@@ -81,6 +81,16 @@ pub fn run_kept(
     Ok(status)
 }
 
+impl<'a> Begins<'a> {
+    // The journal that is on the disk before anything is answered, if there is one.
+    fn log(&self) -> Option<&'a ScriptLog> {
+        match self {
+            Begins::Kept(keeping) => Some(keeping.log()),
+            Begins::New | Begins::Over(_) => None,
+        }
+    }
+}
+
 // Answers the lines of standard input on standard output, in this style. Gives the status; a fault tells the system's reason.
 fn styled(
     rt: &HostRuntime,
@@ -92,9 +102,10 @@ fn styled(
     let mut input = Noting::new(rt.stdin());
     let mut output = Noting::new(rt.stdout());
     let mut prompts = Noting::new(rt.stdout());
+    let log = begins.log();
     let columns = Columns::new(
         rt.alloc(),
-        &mut output,
+        SyncedWriter::new(&mut output, log),
         style == Style::Prompted && rt.stdout().is_terminal(),
     );
     let mut replies = Replies::new(rt.alloc(), &course, columns);
@@ -103,11 +114,24 @@ fn styled(
         Style::Explained => explained(rt, begins, &course, &mut input, &mut replies),
         Style::Prompted => prompted(rt, begins, &course, &mut input, &mut prompts, &mut replies),
     };
-    let status = ended(rt, &course, &mut replies);
+    let status = if has_failed(log) {
+        // the lines that are counted needn't be on the disk
+        ExitCode::FAILURE
+    } else {
+        ended(rt, &course, &mut replies)
+    };
     drop(replies);
     match outcome {
         Ok(()) => Ok(status),
         Err(fault) => Err(with_reason(fault, &input, &output, &prompts)),
+    }
+}
+
+// Whether the journal couldn't be written, if there is one.
+fn has_failed(log: Option<&ScriptLog>) -> bool {
+    match log {
+        Some(log) => log.failure().is_some(),
+        None => false,
     }
 }
 

@@ -2,11 +2,12 @@
 use crate::scripting::Style;
 use crate::watching::{ended, prompts_ended};
 use anyhow::Context;
-use std::io::{Error, IsTerminal, Read, Write};
+use std::io::{Error, ErrorKind, IsTerminal, Read, Write};
 use std::net::{Ipv4Addr, SocketAddr, TcpStream};
 use std::os::unix::net::UnixStream;
 use std::process::ExitCode;
 use std::time::Duration;
+use std::{io, thread};
 use tab_command::ServerAddress;
 use tab_help::{Asks, Explaining, Prompting};
 use tab_host::{FirstWait, NetFault, Noting};
@@ -16,12 +17,15 @@ use tab_prog::{ShellFault, shell_run};
 use tab_socket::{End, Stream};
 use tab_watch::{Columns, Course, Replies, RunOptions, Steps};
 
+// How many milliseconds stand between two tries to reach a server.
+const PAUSE: u64 = 50;
+
 /// Whom a shell asks, and how.
 #[derive(Clone, Copy)]
 pub struct Way<'a> {
     /// Where the server is.
     pub place: ServerAddress<'a>,
-    /// How long the server is waited for, to connect to its port and for its first answer.
+    /// How long the server is waited for, to connect and for its first answer.
     pub patience: Duration,
     /// What goes with the lines.
     pub style: Style,
@@ -34,7 +38,7 @@ pub struct Way<'a> {
 pub fn run_shell(rt: &HostRuntime, way: &Way<'_>, user: Name) -> anyhow::Result<ExitCode> {
     match way.place {
         ServerAddress::Port(port) => shell_over(rt, way, connected(rt, port, way.patience)?, user),
-        ServerAddress::Socket(name) => shell_over(rt, way, opened(rt, name)?, user),
+        ServerAddress::Socket(name) => shell_over(rt, way, opened(rt, name, way.patience)?, user),
     }
 }
 
@@ -90,19 +94,67 @@ fn shell_over<S: Stream>(
 
 // A connection to the server on a port.
 fn connected(rt: &HostRuntime, port: u16, patience: Duration) -> anyhow::Result<TcpStream> {
-    let address = SocketAddr::from((Ipv4Addr::LOCALHOST, port));
     let fault = NetFault::Connect(port);
-    let stream = TcpStream::connect_timeout(rt, &address, patience).with_context(|| fault)?;
+    let stream = port_stream(rt, port, patience).with_context(|| fault)?;
     stream.set_nodelay(true).with_context(|| fault)?;
     Ok(stream)
 }
 
+// A connection to a port, which is asked again for so long while nobody listens there.
+fn port_stream(rt: &HostRuntime, port: u16, patience: Duration) -> io::Result<TcpStream> {
+    let address = SocketAddr::from((Ipv4Addr::LOCALHOST, port));
+    for _ in 0..pauses_in(patience) {
+        match another_stream(rt, &address, patience) {
+            Err(error) if is_nobody(&error) => thread::sleep(rt, Duration::from_millis(PAUSE)),
+            outcome => return outcome,
+        }
+    }
+    another_stream(rt, &address, patience)
+}
+
+// A connection to another one's port: where nobody listens, the system may connect a port to itself.
+fn another_stream(
+    rt: &HostRuntime,
+    address: &SocketAddr,
+    patience: Duration,
+) -> io::Result<TcpStream> {
+    let stream = TcpStream::connect_timeout(rt, address, patience)?;
+    if stream.local_addr()?.port() == address.port() {
+        return Err(Error::from(ErrorKind::ConnectionRefused));
+    }
+    Ok(stream)
+}
+
 // A connection to the server at a socket file.
-fn opened(rt: &HostRuntime, name: &str) -> anyhow::Result<UnixStream> {
-    let stream = UnixStream::connect(rt, name)
+fn opened(rt: &HostRuntime, name: &str, patience: Duration) -> anyhow::Result<UnixStream> {
+    let stream = file_stream(rt, name, patience)
         .with_context(|| NetFault::NoServer)
         .with_context(|| name)?;
     Ok(stream)
+}
+
+// A connection to a socket file, which is asked again for so long while it isn't there, or nobody listens.
+fn file_stream(rt: &HostRuntime, name: &str, patience: Duration) -> io::Result<UnixStream> {
+    for _ in 0..pauses_in(patience) {
+        match UnixStream::connect(rt, name) {
+            Err(error) if is_nobody(&error) => thread::sleep(rt, Duration::from_millis(PAUSE)),
+            outcome => return outcome,
+        }
+    }
+    UnixStream::connect(rt, name)
+}
+
+// Whether nobody is there, or nobody yet.
+fn is_nobody(error: &Error) -> bool {
+    matches!(
+        error.kind(),
+        ErrorKind::ConnectionRefused | ErrorKind::NotFound
+    )
+}
+
+// How often a server is asked again in this time.
+fn pauses_in(time: Duration) -> u64 {
+    time.as_secs().saturating_mul(1000 / PAUSE)
 }
 
 // The fault of a server that gives no first answer.
