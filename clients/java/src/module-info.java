@@ -3,6 +3,7 @@ module org.tabd.accumulo {
     exports org.tabd.accumulo;
     exports org.tabd.accumulo.core.client;
     exports org.tabd.accumulo.core.client.admin;
+    exports org.tabd.accumulo.core.client.lexicoder;
     exports org.tabd.accumulo.core.client.security;
     exports org.tabd.accumulo.core.client.security.tokens;
     exports org.tabd.accumulo.core.data;

@@ -21,6 +21,24 @@ public sealed interface Address {
     SocketChannel connect(Duration patience) throws IOException;
 
     /**
+     * An address in one word.
+     *
+     * @param place {@code HOST:PORT}, or the path of a socket file, which has a slash
+     * @return the address
+     * @throws IllegalArgumentException if it is neither
+     */
+    static Address of(String place) {
+        if (place != null && place.indexOf('/') >= 0) {
+            return new SocketFile(Path.of(place));
+        }
+        if (place == null || !place.matches("[^,\\s]+:[0-9]{1,5}")) {
+            throw new IllegalArgumentException("not a server, which is HOST:PORT or the path of a socket file: " + place);
+        }
+        int colon = place.lastIndexOf(':');
+        return new Port(place.substring(0, colon), Integer.parseInt(place.substring(colon + 1)));
+    }
+
+    /**
      * A port of a host.
      *
      * @param host the name or number of the host

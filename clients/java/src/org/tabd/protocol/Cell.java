@@ -10,4 +10,11 @@ package org.tabd.protocol;
  * @param timestamp the time
  * @param value the value
  */
-public record Cell(byte[] row, byte[] family, byte[] qualifier, byte[] label, long timestamp, byte[] value) {}
+public record Cell(byte[] row, byte[] family, byte[] qualifier, byte[] label, long timestamp, byte[] value) {
+    /** Each part as a shell spells it. */
+    @Override
+    public String toString() {
+        return "Cell[row=" + Words.of(row) + ", family=" + Words.of(family) + ", qualifier=" + Words.of(qualifier) + ", label="
+                + Words.of(label) + ", timestamp=" + timestamp + ", value=" + Words.of(value) + "]";
+    }
+}

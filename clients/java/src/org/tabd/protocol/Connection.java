@@ -32,7 +32,7 @@ public final class Connection implements AutoCloseable {
     private final Queue<Pending<?>> waiting = new ArrayDeque<>();
 
     private IOException failure;
-    private Pending<Void> greeting;
+    private volatile Pending<Void> greeting;
     private volatile long heard = System.nanoTime();
 
     private Connection(SocketChannel channel, Duration patience) throws IOException {
@@ -259,7 +259,8 @@ public final class Connection implements AutoCloseable {
     }
 
     private ServerTimeoutException late() {
-        return new ServerTimeoutException("the server took longer than " + Duration.ofNanos(patience));
+        String why = greeting == null || greeting.isDone() ? "" : "; all its workers may be busy (--workers)";
+        return new ServerTimeoutException("the server took longer than " + Duration.ofNanos(patience) + why);
     }
 
     // ---- Failing.

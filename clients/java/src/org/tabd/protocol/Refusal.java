@@ -57,6 +57,12 @@ public sealed interface Refusal {
         public int number() {
             return 4;
         }
+
+        /** The term as a shell spells it. */
+        @Override
+        public String toString() {
+            return "BadAuthorizations[term=" + Words.of(term) + "]";
+        }
     }
 
     /**

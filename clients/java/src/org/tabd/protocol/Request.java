@@ -61,7 +61,7 @@ public final class Request<T> {
      * @throws IllegalArgumentException if it isn't 1 to 128 of {@code a-z A-Z 0-9 _ - .}
      */
     public static byte[] name(String name) {
-        if (!NAME.matcher(name).matches()) {
+        if (name == null || !NAME.matcher(name).matches()) {
             throw new IllegalArgumentException("not a name, which is 1 to 128 of a-z A-Z 0-9 _ - . : " + name);
         }
         return name.getBytes(StandardCharsets.US_ASCII);

@@ -11,4 +11,10 @@ package org.tabd.protocol;
 public record RowRange(byte[] low, boolean withLow, byte[] high, boolean withHigh) {
     /** All rows. */
     public static final RowRange ALL = new RowRange(null, true, null, true);
+
+    /** Each row as a shell spells it. */
+    @Override
+    public String toString() {
+        return "RowRange[low=" + Words.of(low) + ", withLow=" + withLow + ", high=" + Words.of(high) + ", withHigh=" + withHigh + "]";
+    }
 }

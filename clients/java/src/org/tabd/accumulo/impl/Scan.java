@@ -55,7 +55,7 @@ record Scan(String table, Collection<byte[]> authorizations, List<Column> column
 
         @Override
         public String toString() {
-            return getKey + "\t" + getValue;
+            return getKey + " " + getValue;
         }
     }
 }

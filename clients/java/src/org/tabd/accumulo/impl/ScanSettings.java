@@ -23,6 +23,10 @@ import org.tabd.protocol.Column;
 
 /** What both kinds of scanners are told. */
 abstract class ScanSettings implements ScannerBase {
+    /** At which priority Accumulo leaves versions out. */
+    private static final int VERSIONING = 20;
+    private static final String THERE = "org.apache.accumulo.";
+    private static final String HERE = "org.tabd.accumulo.";
     private static final Map<String, Function<Map<String, String>, Filter>> FILTERS = Map.of(
             RegExFilter.class.getName(), RegExFilter::new,
             GrepIterator.class.getName(), GrepIterator::new,
@@ -53,7 +57,7 @@ abstract class ScanSettings implements ScannerBase {
     final Scan scan() {
         List<Filter> filters = iterators.values().stream()
                 .sorted(Comparator.comparingInt(IteratorSetting::getPriority))
-                .map(setting -> FILTERS.get(setting.getIteratorClass()).apply(setting.getOptions())).toList();
+                .map(ScanSettings::filter).toList();
         return new Scan(table, authorizations.getAuthorizations(), columns.stream().map(Wanted::column).toList(), filters);
     }
 
@@ -85,18 +89,33 @@ abstract class ScanSettings implements ScannerBase {
 
     @Override
     public void addScanIterator(IteratorSetting setting) {
-        if (!FILTERS.containsKey(setting.getIteratorClass())) {
-            throw new UnsupportedOperationException("addScanIterator: a server runs no iterators but those that it always runs, and "
-                    + "a client only RegExFilter, GrepIterator and TimestampFilter; not " + setting.getIteratorClass());
-        }
+        demandFits(setting);
         if (iterators.containsKey(setting.getName())) {
             throw new IllegalArgumentException("Iterator name is already in use " + setting.getName());
         }
         if (iterators.values().stream().anyMatch(it -> it.getPriority() == setting.getPriority())) {
             throw new IllegalArgumentException("Iterator priority is already in use " + setting.getPriority());
         }
-        FILTERS.get(setting.getIteratorClass()).apply(setting.getOptions()); // what is wrong with the options is told now
         iterators.put(setting.getName(), copy(setting));
+    }
+
+    /** The filter of a setting, whose class may have its name in Accumulo. */
+    private static Filter filter(IteratorSetting setting) {
+        String name = setting.getIteratorClass();
+        Function<Map<String, String>, Filter> filter = FILTERS.get(name.startsWith(THERE) ? HERE + name.substring(THERE.length()) : name);
+        if (filter == null) {
+            throw new UnsupportedOperationException("addScanIterator: a server runs no iterators but those that it always runs, and "
+                    + "a client only RegExFilter, GrepIterator and TimestampFilter; not " + name);
+        }
+        return filter.apply(setting.getOptions());
+    }
+
+    /** Demands a filter whose options are such, and which shows the same cells behind versions as at its place in Accumulo. */
+    private static void demandFits(IteratorSetting setting) {
+        if (!filter(setting).isOfColumns() && setting.getPriority() < VERSIONING) {
+            throw new UnsupportedOperationException("addScanIterator: a filter here sees only the versions that the table shows; priority "
+                    + setting.getPriority() + " would come before them");
+        }
     }
 
     private static IteratorSetting copy(IteratorSetting setting) {
@@ -114,7 +133,10 @@ abstract class ScanSettings implements ScannerBase {
         if (setting == null) {
             throw new IllegalArgumentException("there is no filter " + name);
         }
-        setting.addOption(key, value);
+        IteratorSetting changed = copy(setting);
+        changed.addOption(key, value);
+        demandFits(changed);
+        iterators.put(name, changed);
     }
 
     @Override

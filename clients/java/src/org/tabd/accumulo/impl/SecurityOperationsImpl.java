@@ -1,6 +1,6 @@
 package org.tabd.accumulo.impl;
 
-import java.util.concurrent.atomic.AtomicBoolean;
+import java.util.List;
 import org.tabd.accumulo.core.client.AccumuloException;
 import org.tabd.accumulo.core.client.AccumuloSecurityException;
 import org.tabd.accumulo.core.client.admin.SecurityOperations;
@@ -13,8 +13,6 @@ import org.tabd.protocol.Request;
 
 /** Operations on users over a {@link Link}. */
 final class SecurityOperationsImpl implements SecurityOperations {
-    private static final AtomicBoolean WARNED = new AtomicBoolean();
-
     private final Link link;
 
     SecurityOperationsImpl(Link link) {
@@ -25,10 +23,27 @@ final class SecurityOperationsImpl implements SecurityOperations {
         return Faults.ask(link, table, request);
     }
 
+    private static Permission of(SystemPermission permission) {
+        demandThere(permission, Permission.SYSTEM);
+        return new Permission(permission.name(), null);
+    }
+
+    private static Permission of(TablePermission permission, String table) {
+        Request.name(table); // without a table it would be one on the system
+        demandThere(permission, Permission.TABLE);
+        return new Permission(permission.name(), table);
+    }
+
+    private static void demandThere(Enum<?> permission, List<String> all) {
+        if (!all.contains(permission.name())) {
+            throw new UnsupportedOperationException(permission + ": a server has no such permission");
+        }
+    }
+
     @Override
     public void createLocalUser(String user, PasswordToken password) throws AccumuloException, AccumuloSecurityException {
-        if (password != null && !WARNED.getAndSet(true)) {
-            System.err.println("tabd: the passwords of users are ignored: a server asks for none");
+        if (password != null) {
+            Notes.PASSWORDS.tell();
         }
         ask(null, Request.createUser(user));
     }
@@ -46,24 +61,24 @@ final class SecurityOperationsImpl implements SecurityOperations {
 
     @Override
     public void grantSystemPermission(String user, SystemPermission permission) throws AccumuloException, AccumuloSecurityException {
-        ask(null, Request.grant(user, new Permission(permission.name(), null)));
+        ask(null, Request.grant(user, of(permission)));
     }
 
     @Override
     public void revokeSystemPermission(String user, SystemPermission permission) throws AccumuloException, AccumuloSecurityException {
-        ask(null, Request.revoke(user, new Permission(permission.name(), null)));
+        ask(null, Request.revoke(user, of(permission)));
     }
 
     @Override
     public void grantTablePermission(String user, String table, TablePermission permission)
             throws AccumuloException, AccumuloSecurityException {
-        ask(table, Request.grant(user, new Permission(permission.name(), table)));
+        ask(table, Request.grant(user, of(permission, table)));
     }
 
     @Override
     public void revokeTablePermission(String user, String table, TablePermission permission)
             throws AccumuloException, AccumuloSecurityException {
-        ask(table, Request.revoke(user, new Permission(permission.name(), table)));
+        ask(table, Request.revoke(user, of(permission, table)));
     }
 
     @Override
@@ -72,6 +87,6 @@ final class SecurityOperationsImpl implements SecurityOperations {
         if (!user.equals(link.user())) {
             throw new UnsupportedOperationException("hasTablePermission: a server tells its asker alone, which is " + link.user());
         }
-        return ask(table, Request.rights(table)).table().contains(permission.name());
+        return ask(table, Request.rights(table)).table().contains(of(permission, table).name());
     }
 }

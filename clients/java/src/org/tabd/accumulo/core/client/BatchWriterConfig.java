@@ -1,6 +1,7 @@
 package org.tabd.accumulo.core.client;
 
 import java.util.concurrent.TimeUnit;
+import org.tabd.accumulo.impl.Notes;
 
 /** How a {@link BatchWriter} queues. */
 public class BatchWriterConfig {
@@ -12,6 +13,7 @@ public class BatchWriterConfig {
     private long maxLatency = MAX_LATENCY;
     private long timeout = Long.MAX_VALUE;
     private int maxWriteThreads = MAX_WRITE_THREADS;
+    private Durability durability = Durability.DEFAULT;
 
     /** 50 MiB, two minutes, and the client's patience. */
     public BatchWriterConfig() {}
@@ -76,16 +78,16 @@ public class BatchWriterConfig {
     }
 
     /**
-     * When a write is safe.
+     * When a write is safe, which is ignored: the server decides that for all writes. Another one than the default is told of once.
      *
-     * @param durability {@link Durability#DEFAULT}
+     * @param durability when
      * @return this
-     * @throws UnsupportedOperationException for any other one, since the server decides that for all writes
      */
     public BatchWriterConfig setDurability(Durability durability) {
         if (durability != Durability.DEFAULT) {
-            throw new UnsupportedOperationException("setDurability: a server's --sync says when its writes are safe, for all of them");
+            Notes.DURABILITY.tell();
         }
+        this.durability = durability;
         return this;
     }
 
@@ -128,11 +130,11 @@ public class BatchWriterConfig {
     }
 
     /**
-     * When a write is safe.
+     * When a write was said to be safe.
      *
-     * @return {@link Durability#DEFAULT}
+     * @return what was said
      */
     public Durability getDurability() {
-        return Durability.DEFAULT;
+        return durability;
     }
 }

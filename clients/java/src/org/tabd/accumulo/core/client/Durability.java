@@ -1,6 +1,6 @@
 package org.tabd.accumulo.core.client;
 
-/** When a write is safe. A server decides that for all writes, by its {@code --sync}, so only {@link #DEFAULT} is taken. */
+/** When a write is safe. A server decides that for all writes, by its {@code --sync}, whatever a writer says. */
 public enum Durability {
     /** As the server does. */
     DEFAULT,

@@ -212,4 +212,9 @@ public class IteratorSetting {
     public void clearOptions() {
         options.clear();
     }
+
+    @Override
+    public String toString() {
+        return "name:" + name + ", priority:" + priority + ", class:" + iteratorClass + ", properties:" + options;
+    }
 }

@@ -22,7 +22,8 @@ public interface ScannerBase extends Iterable<Entry<Key, Value>>, AutoCloseable 
      * Adds a filter: a {@code RegExFilter}, {@code GrepIterator} or {@code TimestampFilter}, which runs in the client.
      *
      * @param setting the filter
-     * @throws UnsupportedOperationException for any other iterator: a server runs none
+     * @throws UnsupportedOperationException for any other iterator, as a server runs none; and for a filter of values or times below
+     *     priority 20, which in Accumulo sees versions that the table doesn't show
      * @throws IllegalArgumentException if its name or priority is in use
      */
     void addScanIterator(IteratorSetting setting);

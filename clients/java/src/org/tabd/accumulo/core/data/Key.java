@@ -310,6 +310,11 @@ public class Key implements Comparable<Key>, Cloneable {
         this(row, family, qualifier, visibility.getExpression(), timestamp, false, true);
     }
 
+    /** {@return what builds a key, part by part} */
+    public static KeyBuilder builder() {
+        return new KeyBuilder();
+    }
+
     /**
      * Becomes the same key.
      *

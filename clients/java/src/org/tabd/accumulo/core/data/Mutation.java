@@ -730,6 +730,12 @@ public class Mutation {
         return text.toString();
     }
 
+    /** As {@link #prettyPrint} has it. */
+    @Override
+    public String toString() {
+        return prettyPrint();
+    }
+
     @Override
     public boolean equals(Object other) {
         return other instanceof Mutation mutation && Arrays.equals(row, mutation.row) && updates.equals(mutation.updates);

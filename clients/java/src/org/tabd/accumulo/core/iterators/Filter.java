@@ -30,6 +30,15 @@ public abstract class Filter {
     public abstract boolean accept(Key key, Value value);
 
     /**
+     * Whether it shows or leaves out all versions of a column together, whatever their times and values.
+     *
+     * @return whether it makes no difference that it sees only the versions that the table shows
+     */
+    public boolean isOfColumns() {
+        return false;
+    }
+
+    /**
      * Whether a cell is shown.
      *
      * @param key its key

@@ -3,6 +3,7 @@ package org.tabd.accumulo.core.security;
 import java.nio.ByteBuffer;
 import java.nio.charset.StandardCharsets;
 import java.util.ArrayList;
+import java.util.Base64;
 import java.util.Collection;
 import java.util.Iterator;
 import java.util.List;
@@ -15,6 +16,8 @@ import org.tabd.accumulo.core.data.ByteSequence;
 public class Authorizations implements Iterable<byte[]> {
     /** None: a scan under these shows what has the empty label, and nothing else, whatever the user holds. */
     public static final Authorizations EMPTY = new Authorizations();
+
+    private static final String HEADER = "!AUTH1:";
 
     private final SortedSet<ByteSequence> terms = new TreeSet<>();
 
@@ -49,6 +52,37 @@ public class Authorizations implements Iterable<byte[]> {
             term.duplicate().get(bytes);
             add(bytes);
         }
+    }
+
+    /**
+     * What {@link #getAuthorizationsArray} gave, or terms as UTF-8 with commas between them. It isn't a set of one term.
+     *
+     * @param serialized the bytes
+     */
+    public Authorizations(byte[] serialized) {
+        String text = new String(serialized, StandardCharsets.UTF_8);
+        boolean encoded = text.startsWith(HEADER);
+        for (String word : text.substring(encoded ? HEADER.length() : 0).split(",")) {
+            if (encoded && !word.isEmpty()) {
+                add(Base64.getDecoder().decode(word));
+            } else if (!encoded && serialized.length > 0) {
+                add(word.strip().getBytes(StandardCharsets.UTF_8));
+            }
+        }
+    }
+
+    /**
+     * The terms in one text.
+     *
+     * @return {@code !AUTH1:}, and each term in Base64 with commas between them
+     */
+    public String serialize() {
+        return HEADER + String.join(",", getAuthorizations().stream().map(Base64.getEncoder()::encodeToString).toList());
+    }
+
+    /** {@return the bytes of {@link #serialize}} */
+    public byte[] getAuthorizationsArray() {
+        return serialize().getBytes(StandardCharsets.UTF_8);
     }
 
     private void add(byte[] term) {

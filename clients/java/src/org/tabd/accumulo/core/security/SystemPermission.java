@@ -1,6 +1,6 @@
 package org.tabd.accumulo.core.security;
 
-/** What a user may do to the system. Those of namespaces and of delegation tokens aren't here: there are neither. */
+/** What a user may do to the system. Those of namespaces and of delegation tokens can't be given: there are neither. */
 public enum SystemPermission {
     /** To give permissions on the system, which is root's alone. */
     GRANT,
@@ -17,5 +17,13 @@ public enum SystemPermission {
     /** To give users authorizations. */
     ALTER_USER,
     /** To save, load, and rotate histories. */
-    SYSTEM
+    SYSTEM,
+    /** Isn't there. */
+    CREATE_NAMESPACE,
+    /** Isn't there. */
+    DROP_NAMESPACE,
+    /** Isn't there. */
+    ALTER_NAMESPACE,
+    /** Isn't there. */
+    OBTAIN_DELEGATION_TOKEN
 }

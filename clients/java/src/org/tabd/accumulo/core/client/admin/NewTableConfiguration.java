@@ -1,5 +1,6 @@
 package org.tabd.accumulo.core.client.admin;
 
+import java.util.List;
 import java.util.Map;
 import java.util.SortedSet;
 import java.util.TreeSet;
@@ -7,7 +8,9 @@ import org.tabd.hadoop.io.Text;
 
 /** How a table is made: with the writers' times and one version of each column, unless told otherwise. */
 public class NewTableConfiguration {
-    private static final String VERSIONS = "table\\.iterator\\.(scan|minc|majc)\\.vers\\.opt\\.maxVersions";
+    private static final String SCANS = "table.iterator.scan.vers.opt.maxVersions";
+    private static final String MINOR = "table.iterator.minc.vers.opt.maxVersions";
+    private static final String MAJOR = "table.iterator.majc.vers.opt.maxVersions";
 
     private final SortedSet<Text> splits = new TreeSet<>();
     private int versions = 1;
@@ -66,20 +69,33 @@ public class NewTableConfiguration {
     }
 
     /**
-     * Sets properties: those of Accumulo that say how many versions are shown.
+     * Sets properties: those of Accumulo that say how many versions are shown. One that isn't given is 1 then, as in Accumulo.
      *
      * @param properties {@code table.iterator.scan.vers.opt.maxVersions}, and the same of {@code minc} and {@code majc}
      * @return this
      * @throws UnsupportedOperationException for any other one
+     * @throws IllegalArgumentException if they differ, which loses versions when Accumulo compacts
      */
     public NewTableConfiguration setProperties(Map<String, String> properties) {
-        properties.forEach((property, value) -> {
-            if (!property.matches(VERSIONS)) {
+        for (String property : properties.keySet()) {
+            if (!List.of(SCANS, MINOR, MAJOR).contains(property)) {
                 throw new UnsupportedOperationException("setProperties: a server has no property " + property);
             }
-            setVersions(Integer.parseInt(value));
-        });
-        return this;
+        }
+        if (properties.isEmpty()) {
+            return this;
+        }
+        int scans = Integer.parseInt(properties.getOrDefault(SCANS, "1"));
+        demandSame(scans, Integer.parseInt(properties.getOrDefault(MAJOR, "1")), "major");
+        demandSame(scans, Integer.parseInt(properties.getOrDefault(MINOR, "1")), "minor");
+        return setVersions(scans);
+    }
+
+    private static void demandSame(int scans, int compactions, String kind) {
+        if (scans != compactions) {
+            throw new IllegalArgumentException("a table has one number of versions, and not " + scans + " in scans and " + compactions
+                    + " in " + kind + " compactions");
+        }
     }
 
     /**

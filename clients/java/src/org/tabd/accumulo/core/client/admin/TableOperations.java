@@ -142,6 +142,20 @@ public interface TableOperations {
     void compact(String tableName, Text start, Text end, boolean flush, boolean wait)
             throws AccumuloException, AccumuloSecurityException, TableNotFoundException;
 
+    /**
+     * Merges all that each tablet holds.
+     *
+     * @param tableName the table
+     * @param config ignored: it is done for the whole table, and behind this
+     * @throws AccumuloException if the server can't be asked
+     * @throws AccumuloSecurityException if the user isn't allowed to
+     * @throws TableNotFoundException if there is no such table
+     */
+    default void compact(String tableName, CompactionConfig config)
+            throws AccumuloException, AccumuloSecurityException, TableNotFoundException {
+        compact(tableName, config.getStartRow(), config.getEndRow(), config.getFlush(), config.getWait());
+    }
+
     // ---- What Accumulo doesn't have.
 
     /**

@@ -19,6 +19,9 @@ public class GrepIterator extends Filter {
      */
     public GrepIterator(Map<String, String> options) {
         super(options);
+        if (!options.containsKey("term")) {
+            throw new IllegalArgumentException("GrepIterator has no option term");
+        }
         term = options.get("term").getBytes(StandardCharsets.UTF_8);
     }
 

@@ -45,6 +45,11 @@ public class RegExFilter extends Filter {
     }
 
     @Override
+    public boolean isOfColumns() {
+        return value == null;
+    }
+
+    @Override
     public boolean accept(Key key, Value of) {
         if (orFields) {
             return matches(row, key.getRowData().toArray(), false) || matches(family, key.getColumnFamilyData().toArray(), false)
