@@ -73,7 +73,7 @@ from .places import TIMEOUT
 from .pool import Pool
 from .session import Session, TextSession
 
-__version__ = "0.18.0"
+__version__ = "0.19.0"
 """The version of the program that it was released with."""
 
 __all__ = [

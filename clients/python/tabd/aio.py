@@ -7,13 +7,14 @@
             print(cell.row, cell.value)
 
 Requests, replies, checks and errors are those of the package. Tasks may share a client: their requests go one after the other. A task that
-is cancelled while its request is under way closes the client, as a break does.
+is cancelled while its request is under way closes the client, as a break does. There is no pool and no batch writer here.
 """
 from __future__ import annotations
 
 import asyncio
 from contextlib import asynccontextmanager, closing, suppress
 from functools import partial
+from operator import length_hint
 from os import PathLike
 from types import TracebackType
 from typing import (
@@ -40,12 +41,12 @@ from typing import (
 )
 
 from . import client, requests, session, to_pandas
-from .client import BUFFER, NOBODY_LISTENS, checked, column_of, link_to, newest_value
-from .connection import Exchanges, Hear, Step, Taken, sized
+from .client import BUFFER, NOBODY_LISTENS, checked, column_of, link_to, newest_value, shown_at, shown_user
+from .connection import Exchange, Exchanges, Step, Taken, sized
 from .data import ALL_ROWS, Cell, Column, Range, Rights, Status, Text, TextCell, Update
 from .errors import Refused
 from .pipeline import Refusals
-from .places import LOCAL, TIMEOUT, pauses, place
+from .places import LOCAL, TIMEOUT, Place, pauses, place
 from .replies import Opened, Reply, Row
 from .requests import Opcode
 from .session import C, Cells, OfBytes, OfText
@@ -56,48 +57,78 @@ E = TypeVar("E", bound="Closable")
 S = TypeVar("S", bound="Asked[Any]")
 R = TypeVar("R", bound=Reply)
 
+__all__ = ["Client", "Opening", "Scan", "Session", "TextSession", "connect"]
+
+
+class Pipeline(Refusals):
+    """The writes of a task that wait, and what was answered."""
+
+    def __init__(self) -> None:
+        super().__init__()
+        self.waiting: List[Exchange] = []
+
 
 class Connection(Exchanges):
     """Sends requests and reads their answers over the streams of asyncio, for one task at a time: others wait for their turn."""
 
-    def __init__(self, reader: asyncio.StreamReader, writer: asyncio.StreamWriter, timeout: Optional[float]) -> None:
-        super().__init__()
+    def __init__(
+        self,
+        reader: asyncio.StreamReader,
+        writer: asyncio.StreamWriter,
+        timeout: Optional[float],
+        user: Optional[str] = None,
+        at: Optional[Place] = None,
+    ) -> None:
+        super().__init__(user, at)
         self._reader, self._writer, self._timeout = reader, writer, timeout
+        # by the task that opened it
+        self.pipelines: Dict[Optional["asyncio.Task[Any]"], Pipeline] = {}
         self._in_turn = asyncio.Lock()
         self._is_late = False
         # what came and isn't used yet
         self._came = bytearray()
 
-    async def collect(self, request: bytes, hear: Hear) -> None:
-        """As `later`. The last request of a window and a large one are sent, with all that wait."""
-        async with self._in_turn:
-            self.later(request, hear)
-            if self._is_enough(request):
-                await self._send()
+    def mine(self) -> Optional[Pipeline]:
+        """The pipeline that this task has open."""
+        return self.pipelines.get(asyncio.current_task()) if self.pipelines else None
 
-    async def send(self) -> None:
-        """Sends all that waits, and hears the answers."""
+    async def collect(self, request: bytes, pipeline: Pipeline) -> None:
+        """Lets a request wait in this pipeline. The last of a window and a large one are sent, with all of it that wait."""
+        self._see_process()
         async with self._in_turn:
-            await self._send()
+            pipeline.waiting.append((sized(request), pipeline.hear))
+            if self._is_enough(pipeline.waiting, request):
+                await self._send(pipeline)
+
+    async def send(self, pipeline: Pipeline) -> None:
+        """Sends all of this pipeline that waits, and hears the answers."""
+        self._see_process()
+        async with self._in_turn:
+            await self._send(pipeline)
 
     async def ask(self, request: bytes, hear: Optional[Callable[[Tuple[Reply, ...]], None]] = None) -> Tuple[Reply, ...]:
-        """Sends a request behind all that waits, and gives its answer, which `hear` takes first, or raises its refusal."""
+        """Sends a request behind all of its task that waits, and gives its answer, which `hear` takes first, or raises its refusal."""
+        self._see_process()
         taken = Taken(hear)
         async with self._in_turn:
-            await self._send((sized(request), taken.take))
+            await self._send(self.mine(), (sized(request), taken.take))
         return taken.given()
 
     def close(self) -> None:
-        """Ends the connection. A task that waits for an answer then has none."""
+        """Ends the connection. A task that waits for an answer then has none. One of another process goes on there."""
         self.closed = True
-        self._writer.transport.abort()
+        if not self._is_of_another_process():
+            self._writer.transport.abort()
 
     async def wait_closed(self) -> None:
         """Waits until nothing of it is left."""
-        with suppress(OSError):
-            await self._writer.wait_closed()
+        if not self._is_of_another_process():
+            with suppress(OSError):
+                await self._writer.wait_closed()
 
-    async def _send(self, *last: Tuple[bytes, Hear]) -> None:
+    async def _send(self, pipeline: Optional[Pipeline], *last: Exchange) -> None:
+        if pipeline is not None:
+            last, pipeline.waiting = (*pipeline.waiting, *last), []
         with closing(self._steps(*last)) as steps, suppress(StopIteration):
             step = next(steps)
             while True:
@@ -109,17 +140,20 @@ class Connection(Exchanges):
                     step = steps.send(found)
 
     async def _do(self, step: Step) -> bytes:
-        if isinstance(step, bytes):
-            self._writer.write(step)
-            await self._in_time(self._writer.drain())
-            return b""
-        while len(self._came) < step:
+        if step is None:
+            return await self._read(self._length(await self._read(4)))
+        self._writer.write(step)
+        await self._in_time(self._writer.drain())
+        return b""
+
+    async def _read(self, count: int) -> bytes:
+        while len(self._came) < count:
             part = await self._in_time(self._reader.read(BUFFER))
             if not part:
                 raise self._ended()
             self._came += part
-        found = bytes(self._came[:step])
-        del self._came[:step]
+        found = bytes(self._came[:count])
+        del self._came[:count]
         return found
 
     async def _in_time(self, does: Awaitable[T]) -> T:
@@ -144,7 +178,7 @@ def _told_as(there: type) -> Callable[[K], K]:
 
     def tell(here: K) -> K:
         for name, method in vars(here).items():
-            if callable(method) and not method.__doc__:
+            if callable(method) and not method.__doc__ and hasattr(there, name):
                 method.__doc__ = getattr(there, name).__doc__
         return here
 
@@ -179,8 +213,10 @@ class Opening(Generic[E]):
 class Asked(Cells[C]):
     """What is common to the sessions of this client."""
 
-    def __init__(self, connection: Connection, number: int, batch: int, limit: Optional[int], newest: bool) -> None:
-        super().__init__(connection, number, batch, limit, newest)
+    def __init__(
+        self, connection: Connection, number: int, batch: int, limit: Optional[int], newest: bool, table: Optional[Text] = None
+    ) -> None:
+        super().__init__(connection, number, batch, limit, newest, table)
         self._connection = connection
 
     async def fetch(self, count: int) -> Tuple[List[C], bool]:
@@ -195,20 +231,20 @@ class Asked(Cells[C]):
         await self._connection.ask(self._request(count), self._hear)
 
     async def ranges(self, ranges: Iterable[Range]) -> List[List[C]]:
-        return self._by_range(await self._connection.ask(requests.many(self.number, ranges)))
+        return self._by_range(await self._connection.ask(self._request_of(ranges)))
 
     async def close(self) -> None:
         self._close()
 
     async def __aiter__(self) -> AsyncIterator[C]:
         """As an iteration there."""
-        while not self.closed:
+        while not self._is_exhausted:
             for cell in self._ahead:
                 yield self._give([cell])[0]
-            if not self._more:
-                break
-            await self._next(self.batch)
-        self._close()
+            if not self._more and not length_hint(self._ahead):
+                self._close()
+            if not self._is_exhausted:
+                await self._next(self.batch)
 
     def __del__(self) -> None:
         # one that was refused its number of cells has no connection
@@ -226,6 +262,13 @@ class TextSession(OfText, Asked[TextCell]):
 
 class Scan(Opening[E], Generic[E, C]):
     """A scan, which is opened by `async for cell in`, by `async with`, or by `await`; the latter two give the session."""
+
+    def __init__(self, opens: Callable[[], Coroutine[Any, Any, E]], table: Text) -> None:
+        super().__init__(opens)
+        self._table = table
+
+    def __repr__(self) -> str:
+        return f"<tabd.aio.Scan of table {self._table!r}>"
 
     async def __aiter__(self) -> AsyncIterator[C]:
         session = cast("AsyncIterable[C]", await self)
@@ -255,21 +298,21 @@ async def _connect(port: Union[int, str], user: Text, host: str, timeout: Option
     else:
         link = await there()
     reader, writer = await asyncio.open_connection(sock=link)
-    return await Client(Connection(reader, writer, timeout), user)._begin()
+    at = Place(port, user, host, timeout, wait)
+    return await Client(Connection(reader, writer, timeout, shown_user(user), at), user, at)._begin()
 
 
 @_told_as(client.Client)
 class Client:
-    """A user's connection to a server, which is made by `connect`. It is closed by `close`, or at the end of the `async with`.
+    """A user's connection to a server, which is made by `connect`. It is closed by `close`, or at the end of its `async with`.
 
     What it can be asked is what a `tabd.Client` can be, and is answered and refused as there.
     """
 
-    def __init__(self, connection: Connection, user: Text) -> None:
+    def __init__(self, connection: Connection, user: Text, at: Optional[Place] = None) -> None:
         """Over a connection that `connect` has made."""
-        self._user = user
+        self._user, self._at = user, at
         self._connection = connection
-        self._pipeline: Optional[Refusals] = None
 
     async def _begin(self) -> Client:
         """Says who asks."""
@@ -286,11 +329,17 @@ class Client:
         return self._connection.closed
 
     def __repr__(self) -> str:
-        return f"<{type(self).__name__} of {self._user!r}{', closed' if self.closed else ''}>"
+        return f"<{type(self).__name__} of {shown_at(self._user, self._at)}{', closed' if self.closed else ''}>"
 
     async def close(self) -> None:
         self._connection.close()
         await self._connection.wait_closed()
+
+    async def __aenter__(self) -> Client:
+        return self
+
+    async def __aexit__(self, kind: Optional[Type[BaseException]], error: Optional[BaseException], trace: Optional[TracebackType]) -> None:
+        await self.close()
 
     async def _ask(self, request: bytes) -> None:
         """Asks for what is answered by Ok."""
@@ -304,27 +353,29 @@ class Client:
     # ---- Cells.
 
     async def write(self, table: Text, row: Text, updates: Iterable[Update]) -> None:
-        request = requests.write(table, row, updates)
-        if self._pipeline is None:
+        request, pipeline = requests.write(table, row, updates), self._connection.mine()
+        if pipeline is None:
             await self._ask(request)
         else:
-            await self._connection.collect(request, self._pipeline.hear)
+            await self._connection.collect(request, pipeline)
 
     @asynccontextmanager
     async def pipeline(self) -> AsyncIterator[Dict[int, Refused]]:
-        if self._pipeline is not None:
+        """As there, of the task that opens it: what another one asks meanwhile goes by itself, and is answered by itself."""
+        if self._connection.mine() is not None:
             raise ValueError("a pipeline is open already")
-        self._pipeline = pipeline = Refusals()
+        task, pipeline = asyncio.current_task(), Pipeline()
+        self._connection.pipelines[task] = pipeline
         try:
             yield pipeline.refused
         except BaseException:
             if not self.closed:
-                await self._connection.send()
+                await self._connection.send(pipeline)
             raise
         else:
-            await self._connection.send()
+            await self._connection.send(pipeline)
         finally:
-            self._pipeline = None
+            del self._connection.pipelines[task]
         if pipeline.refused:
             raise pipeline.refused[min(pipeline.refused)]
 
@@ -385,7 +436,7 @@ class Client:
         limit: Optional[int] = None,
         newest: bool = False,
         text: bool = False,
-    ) -> Any:
+    ) -> Union[Scan[Session, Cell], Scan[TextSession, TextCell], Coroutine[Any, Any, Any]]:
         """As there, but the session is opened by what is done with this: `async for cell in`, `async with` or `await`.
 
         With `to="pandas"` it is to be awaited.
@@ -396,9 +447,9 @@ class Client:
 
         async def opens() -> Any:
             opened = await self._ask_for(request, Opened)
-            return kind(self._connection, opened.session, batch, limit, newest)
+            return kind(self._connection, opened.session, batch, limit, newest, table)
 
-        scan: Scan[Any, Any] = Scan(opens)
+        scan: Scan[Any, Any] = Scan(opens, table)
         return scan if to is None else _data_frame(scan)
 
     async def get(self, table: Text, row: Text, family: Text, qualifier: Text, authorizations: Iterable[Text] = ()) -> Optional[bytes]:

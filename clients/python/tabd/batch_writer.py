@@ -1,20 +1,23 @@
 """Writes of many threads, sent many at a time by a thread of their own."""
 from __future__ import annotations
 
+import atexit
 import sys
+import warnings
 from collections import deque
 from functools import partial
-from os import PathLike
-from threading import Condition, Thread, current_thread
+from os import PathLike, getpid
+from threading import Condition, RLock, Thread, get_ident
 from time import monotonic
 from types import TracebackType
 from typing import Callable, Deque, Iterable, List, Optional, Tuple, Type, Union
+from weakref import WeakSet
 
 from . import checks, requests
 from .client import connect
 from .connection import WINDOW, sized
 from .data import Text, Update, Write
-from .errors import ConnectionClosed, Refused, WritesFailed
+from .errors import ConnectionClosed, InUse, Refused, WritesFailed
 from .places import LOCAL, TIMEOUT, seconds
 from .replies import Answer
 
@@ -24,6 +27,10 @@ LATENCY = 1.0
 """Seconds that a write waits for others to be sent with, unless told otherwise."""
 
 
+Waiting = Tuple[Text, Text, Tuple[Update, ...], bytes]
+"""The parts of a write, and its request."""
+
+
 class BatchWriter:
     """Takes writes of any thread, and sends them in their order over a connection of its own, each done or refused by itself.
 
@@ -31,10 +38,12 @@ class BatchWriter:
             writer.write("stock", "apple", [Put("price", "euro", value="2")])
 
     A write is sent after `latency` seconds at the latest. It isn't known to be done before a `flush` or the `close` behind it has returned;
-    what was still waiting when the program ended is lost. All writes without an answer have `max_bytes` together, or are one larger write:
-    where another one would pass that, its thread waits.
+    what waits when the program ends without `close` is lost, with a ResourceWarning. All writes without an answer have `max_bytes` together,
+    or are one larger write: where another one would pass that, its thread waits.
 
-    The server is said as to `connect`. A connection that it ended while nothing was asked is made anew; one that breaks ends the writer.
+    The server is said as to `connect`. A connection that it ended while nothing was asked is made anew; one that breaks ends the writer:
+    `write` raises ConnectionClosed, and a `flush` behind it, or the end of the `with`, says which writes are unknown. In another process,
+    behind a fork, it takes none.
     """
 
     def __init__(
@@ -56,12 +65,16 @@ class BatchWriter:
         self._max_bytes = checks.number(max_bytes, "max_bytes", 1, sys.maxsize)
         self._latency = seconds(latency, "latency")
         self._on_refused = on_refused
-        self._changed = Condition()
+        self._process = getpid()
+        self._lock = RLock()
+        self._changed = Condition(self._lock)
         # the writes that wait, and by when they are sent; those that were sent; the bytes of both
-        self._queue: Deque[Tuple[Write, bytes]] = deque()
+        self._queue: Deque[Waiting] = deque()
         self._due = 0.0
-        self._sent: Deque[Tuple[Write, bytes]] = deque()
+        self._sent: Deque[Waiting] = deque()
         self._bytes = 0
+        # whether its own thread waits for them
+        self._is_idle = False
         # how many writes were given, and of how many it is clear what became of them
         self._given = self._settled = 0
         # threads that wait for room, and for answers
@@ -73,33 +86,40 @@ class BatchWriter:
         self._client = self._connect()
         self._thread = Thread(target=self._run, name="tabd.BatchWriter", daemon=True)
         self._thread.start()
+        LIVE.add(self)
 
     def __repr__(self) -> str:
         return f"<BatchWriter of {self._client._user!r}{', closed' if self.closed else ''}>"
 
     def write(self, table: Text, row: Text, updates: Iterable[Update]) -> None:
         """Takes all updates of a row, to do all or none. ConnectionClosed where the writer has ended: this write isn't sent then."""
-        write = Write(table, row, tuple(checks.items(updates, "updates")))
-        request = sized(requests.write(table, row, write.updates))
-        with self._changed:
-            if not self._has_room(len(request)):
-                self._crowded += 1
-                self._changed.notify_all()
-                try:
-                    self._changed.wait_for(lambda: self._has_room(len(request)))
-                finally:
-                    self._crowded -= 1
+        self._see_process()
+        listed = tuple(checks.items(updates, "updates"))
+        request = sized(requests.write(table, row, listed))
+        size = len(request)
+        with self._lock:
+            if self._bytes and not self._has_room(size):
+                self._wait_for_room(size)
             if self.closed:
                 raise ConnectionClosed("the batch writer is closed")
             if self._broken is not None:
                 raise ConnectionClosed("the batch writer's connection broke") from self._broken
-            if not self._queue:
+            queue = self._queue
+            if not queue:
                 self._due = monotonic() + self._latency
-            self._queue.append((write, request))
-            self._bytes += len(request)
+            queue.append((table, row, listed, request))
+            self._bytes += size
             self._given += 1
-            if len(self._queue) == 1 or self._is_due():
+            if self._is_idle and (len(queue) == 1 or self._is_due()):
                 self._changed.notify_all()
+
+    def _wait_for_room(self, size: int) -> None:
+        self._crowded += 1
+        self._changed.notify_all()
+        try:
+            self._changed.wait_for(lambda: self._has_room(size))
+        finally:
+            self._crowded -= 1
 
     def flush(self) -> None:
         """Waits until all that was given before is answered.
@@ -116,11 +136,15 @@ class BatchWriter:
         return self
 
     def __exit__(self, kind: Optional[Type[BaseException]], error: Optional[BaseException], trace: Optional[TracebackType]) -> None:
-        """Closes it. Behind another error, what went wrong waits for a `flush`."""
-        self._end(error is None)
+        """Closes it. Behind an error of another's, what went wrong waits for a `flush`."""
+        is_own = isinstance(error, ConnectionClosed) and self._broken is not None and error.__cause__ is self._broken
+        self._end(error is None or is_own)
 
     def _end(self, tells: bool) -> None:
         self._see_other_thread()
+        if self._process != getpid():
+            self.closed = True
+            return
         with self._changed:
             self.closed = True
             self._changed.notify_all()
@@ -130,6 +154,7 @@ class BatchWriter:
     def _settle(self, tells: bool) -> None:
         """Waits until it is clear what became of all that was given."""
         self._see_other_thread()
+        self._see_process()
         with self._changed:
             self._flushing += 1
             self._changed.notify_all()
@@ -145,13 +170,23 @@ class BatchWriter:
             raise failed from self._broken
 
     def _see_other_thread(self) -> None:
-        if current_thread() is self._thread:
+        if get_ident() == self._thread.ident:
             raise ValueError("on_refused can't wait for answers: they come behind it")
+
+    def _see_process(self) -> None:
+        if self._process != getpid():
+            raise InUse("this batch writer was made in another process: make writers after a fork")
+
+    def _warn(self) -> None:
+        """Where writes wait at the program's end, says that they are lost."""
+        left = self._given - self._settled
+        if left and self._process == getpid():
+            warnings.warn(f"{self!r} wasn't closed: {left} without an answer", ResourceWarning, source=self)
 
     def _has_room(self, size: int) -> bool:
         """Whether a write of this size is taken now, or never."""
         ended = self.closed or self._broken is not None
-        return ended or not self._bytes or self._bytes + size <= self._max_bytes or current_thread() is self._thread
+        return ended or not self._bytes or self._bytes + size <= self._max_bytes or get_ident() == self._thread.ident
 
     def _is_due(self) -> bool:
         """Whether there is something to be sent now."""
@@ -176,7 +211,9 @@ class BatchWriter:
             while not self._is_due():
                 if self.closed:
                     return False
+                self._is_idle = True
                 self._changed.wait(self._due - monotonic() if self._queue else None)
+                self._is_idle = False
             self._sent, self._queue = self._queue, self._sent
             return True
 
@@ -185,17 +222,15 @@ class BatchWriter:
         if self._client._connection.ended():
             self._client.close()
             self._client = self._connect()
-        for _, request in list(self._sent):
-            self._client._connection.collect(request, self._hear)
-        self._client._connection.send()
+        self._client._connection.send([(waiting[3], self._hear) for waiting in self._sent])
 
     def _hear(self, answer: Answer) -> None:
-        write, request = self._sent[0]
+        waiting = self._sent[0]
         if isinstance(answer, Refused):
-            self._refuse(write, answer)
-        with self._changed:
+            self._refuse(Write(*waiting[:3]), answer)
+        with self._lock:
             self._sent.popleft()
-            self._bytes -= len(request)
+            self._bytes -= len(waiting[3])
             self._settled += 1
             if self._crowded or self._flushing:
                 self._changed.notify_all()
@@ -214,8 +249,19 @@ class BatchWriter:
         """What has no answer will have none."""
         with self._changed:
             self._broken = error
-            self._unknown += [write for write, _ in (*self._sent, *self._queue)]
+            self._unknown += [Write(*waiting[:3]) for waiting in (*self._sent, *self._queue)]
             self._sent.clear()
             self._queue.clear()
             self._bytes, self._settled = 0, self._given
             self._changed.notify_all()
+
+
+LIVE: "WeakSet[BatchWriter]" = WeakSet()
+"""The writers that may have writes to lose."""
+
+
+@atexit.register
+def _warn() -> None:
+    """Says of which writers writes are lost."""
+    for writer in list(LIVE):
+        writer._warn()

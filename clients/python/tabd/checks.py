@@ -3,6 +3,7 @@ from __future__ import annotations
 
 import operator
 import re
+from collections import abc
 from reprlib import repr as shown
 from typing import Iterable, Sequence, Type, TypeVar
 
@@ -34,9 +35,11 @@ def name(value: Text, what: str) -> bytes:
 
 def items(values: Iterable[T], what: str) -> list[T]:
     """The members of a list. A text would be one of its characters, and is never meant."""
+    if type(values) is list or type(values) is tuple:
+        return list(values)
     if isinstance(values, (str, bytes, bytearray, memoryview)):
         raise TypeError(f"{what}: a list is meant, and {shown(values)} is one text. Say [{shown(values)}]")
-    if not isinstance(values, Iterable):
+    if not isinstance(values, abc.Iterable):
         raise TypeError(f"{what}: a list is meant, not {type(values).__name__}")
     return list(values)
 

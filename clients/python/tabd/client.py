@@ -4,6 +4,7 @@ from __future__ import annotations
 import socket
 import sys
 from contextlib import contextmanager, suppress
+from functools import partial
 from io import BufferedReader, BufferedWriter
 from os import PathLike
 from time import sleep
@@ -15,7 +16,7 @@ from .connection import Connection
 from .data import ALL_ROWS, Cell, Column, Range, Rights, Status, Text, Update
 from .errors import Refused
 from .pipeline import Pipeline
-from .places import LOCAL, MAX_TIMEOUT, TIMEOUT, Place, pauses, place, seconds
+from .places import LOCAL, MAX_TIMEOUT, TIMEOUT, Place, number_of_seconds, pauses, place, seconds, where
 from .replies import Opened, Reply, Row
 from .requests import Opcode
 from .session import Session, TextSession
@@ -46,13 +47,13 @@ def connect(
     with _link(port, host, timeout, wait) as link:
         reader, writer = BufferedReader(link.makefile("rb", 0), BUFFER), BufferedWriter(link.makefile("wb", 0), BUFFER)
         # the two streams keep the socket open
-        return Client(reader, writer, user, break_off=lambda: link.shutdown(socket.SHUT_RDWR))
+        return Client(reader, writer, user, break_off=partial(link.shutdown, socket.SHUT_RDWR), at=Place(port, user, host, timeout, wait))
 
 
 def checked(at: Place) -> Tuple[Union[int, str], Text, str, Optional[float], float]:
     """The parts of a place where somebody can ask."""
     port, user, host, timeout, wait = at
-    if timeout is not None and not 0 < timeout <= MAX_TIMEOUT:
+    if timeout is not None and not 0 < number_of_seconds(timeout, "timeout") <= MAX_TIMEOUT:
         raise ValueError(f"timeout: {timeout} isn't above 0 and at most {MAX_TIMEOUT}; None is no bound")
     seconds(wait, "wait")
     if user is None:
@@ -71,8 +72,22 @@ def _link(port: Union[int, str], host: str, timeout: Optional[float], wait: floa
 
 
 def link_to(port: Union[int, str], host: str, timeout: Optional[float]) -> socket.socket:
-    """A connection to who listens there now."""
-    return _at_file(port, timeout) if isinstance(port, str) else _at_port(port, host, timeout)
+    """A connection to who listens there now, or an OSError that names the place."""
+    try:
+        return _at_file(port, timeout) if isinstance(port, str) else _at_port(port, host, timeout)
+    except OSError as error:
+        raise _named(error, port, host, timeout) from None
+
+
+def _named(error: OSError, port: Union[int, str], host: str, timeout: Optional[float]) -> OSError:
+    """As this error, but it says where."""
+    said = "nobody listens there" if isinstance(error, ConnectionRefusedError) else error.strerror or str(error)
+    if isinstance(error, (socket.timeout, TimeoutError)) and error.errno is None:
+        said = f"no connection within {timeout:g} s"
+    if isinstance(port, str) and error.errno is not None:
+        return type(error)(error.errno, said, port)
+    said = f"{where(port, host)}: {said}"
+    return type(error)(said) if error.errno is None else type(error)(error.errno, said)
 
 
 def _at_port(port: int, host: str, timeout: Optional[float]) -> socket.socket:
@@ -85,15 +100,21 @@ def _at_file(path: str, timeout: Optional[float]) -> socket.socket:
     link = socket.socket(socket.AF_UNIX)
     try:
         link.settimeout(timeout)
-        try:
-            link.connect(path)
-        except FileNotFoundError as error:
-            # (the system doesn't say which)
-            raise FileNotFoundError(error.errno, error.strerror, path) from error
+        link.connect(path)
     except BaseException:
         link.close()
         raise
     return link
+
+
+def shown_user(user: Text) -> str:
+    """A user's name for messages."""
+    return checks.text(user, "user").decode(errors="backslashreplace")
+
+
+def shown_at(user: Text, at: Optional[Place]) -> str:
+    """Who asks, and where, for a `repr`."""
+    return f"{user!r}" if at is None else f"{user!r} at {at.where}"
 
 
 def column_of(family: Text, qualifier: Text) -> Column:
@@ -113,14 +134,21 @@ class Client:
     it. Besides them each can be refused as UnknownUser, NoTable, PermissionDenied and NoMemory.
     """
 
-    def __init__(self, reader: BinaryIO, writer: BinaryIO, user: Text, *, break_off: Callable[[], None] = lambda: None) -> None:
+    def __init__(
+        self,
+        reader: BinaryIO,
+        writer: BinaryIO,
+        user: Text,
+        *,
+        break_off: Optional[Callable[[], None]] = None,
+        at: Optional[Place] = None,
+    ) -> None:
         """Speaks over two buffered binary streams, and says who asks. That is taken as given: one who is no user is told so by each request.
 
-        `break_off` is called first where the client is closed, as it is where it can't begin.
+        `break_off` is called first where the client is closed, as it is where it can't begin. `at` is where the server is, for messages.
         """
-        self._user = user
-        self._connection = Connection(reader, writer, break_off)
-        self._pipeline: Optional[Pipeline] = None
+        self._user, self._at = user, at
+        self._connection = Connection(reader, writer, break_off, shown_user(user), at)
         try:
             self._ask(requests.hello(user))
         except BaseException:
@@ -133,7 +161,7 @@ class Client:
         return self._connection.closed
 
     def __repr__(self) -> str:
-        return f"<{type(self).__name__} of {self._user!r}{', closed' if self.closed else ''}>"
+        return f"<{type(self).__name__} of {shown_at(self._user, self._at)}{', closed' if self.closed else ''}>"
 
     def close(self) -> None:
         """Ends the connection, and its sessions with it."""
@@ -161,32 +189,32 @@ class Client:
 
         EmptyMutation, TooLarge, MalformedVisibility, TimestampNotAllowed, BelowHorizon, ConstraintViolation.
         """
-        request = requests.write(table, row, updates)
-        if self._pipeline is None:
+        request, pipeline = requests.write(table, row, updates), self._connection.pipeline
+        if pipeline is None:
             self._ask(request)
         else:
-            self._pipeline.write(request)
+            pipeline.write(request)
 
     @contextmanager
     def pipeline(self) -> Iterator[Dict[int, Refused]]:
         """Inside its `with`, writes wait and are sent many at a time, each done or refused by itself.
 
-        Another request and the end send those that wait before. The dictionary gets all refusals by the places of their writes, from 0; the
-        end raises the first of them.
+        Another request and the end, also by an error, send those that wait before. The dictionary gets all refusals by the places of their
+        writes, from 0; the end raises the first of them. It is of the thread that opens it: another one that asks meanwhile gets InUse.
         """
-        if self._pipeline is not None:
-            raise ValueError("a pipeline is open already")
-        self._pipeline = pipeline = Pipeline(self._connection)
+        pipeline = Pipeline(self._connection)
         try:
+            self._connection.hold(pipeline)
             yield pipeline.refused
         except BaseException:
-            if not self.closed:
+            if self._connection.pipeline is pipeline and not self.closed:
                 self._connection.send()
             raise
         else:
             self._connection.send()
         finally:
-            self._pipeline = None
+            if self._connection.pipeline is pipeline:
+                self._connection.pipeline = None
         if pipeline.refused:
             raise pipeline.refused[min(pipeline.refused)]
 
@@ -247,10 +275,10 @@ class Client:
         limit: Optional[int] = None,
         newest: bool = False,
         text: bool = False,
-    ) -> Any:
+    ) -> Union[Session, TextSession, Any]:
         """A session on the cells in these rows and columns whose labels hold under these authorizations, in the order of keys.
 
-        Columns are families, or pairs of family and qualifier; none means all. With `to="pandas"` it is a data frame of all these cells, or
+        Columns are families, or tuples of family and qualifier; none means all. With `to="pandas"` it is a data frame of all these cells, or
         an ImportError where there is no pandas. TooLarge, BadRange, BadAuthorizations.
 
         With a `limit` the session gives at most so many cells, by iterations and fetches together, asks for no more of them, and is closed
@@ -261,7 +289,7 @@ class Client:
         self._see_scan(batch, to, limit, newest, text)
         kind: Union[Type[Session], Type[TextSession]] = TextSession if text else Session
         opened = self._ask_for(requests.open_session(table, rows, columns, authorizations), Opened)
-        session = kind(self._connection, opened.session, batch, limit=limit, newest=newest)
+        session = kind(self._connection, opened.session, batch, limit=limit, newest=newest, table=table)
         if to is None:
             return session
         with session:

@@ -4,13 +4,18 @@ from __future__ import annotations
 import select
 import socket
 from collections import deque
-from contextlib import closing, contextmanager, suppress
-from threading import Lock
-from typing import BinaryIO, Callable, Deque, Generator, Iterator, List, Optional, Tuple, Union
+from contextlib import closing, suppress
+from os import getpid
+from threading import RLock, get_ident
+from typing import TYPE_CHECKING, BinaryIO, Callable, Deque, Generator, Iterable, List, Optional, Sized, Tuple
 
 from .errors import ConnectionClosed, InUse, ProtocolError, Refused, TimedOut
-from .replies import BEFORE, LAST, Answer, Ok, Reply, decode, is_whole
-from .requests import Opcode, field
+from .places import Place
+from .replies import BEFORE, LAST, Answer, Ok, Reply, decode, explained, is_whole
+from .requests import field
+
+if TYPE_CHECKING:
+    from .pipeline import Pipeline
 
 MAX_FRAME = 8_388_608
 """Bytes of a request or a reply."""
@@ -23,8 +28,14 @@ Hear = Callable[[Answer], object]
 """Takes the answer of a request; what breaks into that closes the connection too."""
 
 
-Step = Union[bytes, int]
-"""What an exchange does next: it sends these bytes, or reads so many."""
+Exchange = Tuple[bytes, Hear]
+"""A request, and what takes its answer."""
+
+Step = Optional[bytes]
+"""What an exchange does next: it sends these bytes, or, where it is None, reads a frame."""
+
+DONE = (Ok(),)
+"""The answer that most requests have, in a frame of one byte."""
 
 
 class Exchanges:
@@ -33,8 +44,12 @@ class Exchanges:
     Whatever breaks into an exchange leaves the two sides out of step, and closes the connection; what was answered before is heard.
     """
 
-    def __init__(self) -> None:
-        self._waiting: Deque[Tuple[bytes, Hear]] = deque()
+    def __init__(self, user: Optional[str] = None, at: Optional[Place] = None) -> None:
+        """Who asks, and where, is for messages."""
+        self._user, self._at = user, at
+        self._waiting: Deque[Exchange] = deque()
+        self._process = getpid()
+        self._has_answered = False
         self.closed = False
 
     def later(self, request: bytes, hear: Hear) -> None:
@@ -45,11 +60,27 @@ class Exchanges:
         """Ends the connection."""
         raise NotImplementedError
 
-    def _is_enough(self, request: bytes) -> bool:
+    @staticmethod
+    def _is_enough(waiting: Sized, request: bytes) -> bool:
         """Whether all that waits is to be sent with this request: it is the last of a window, or large."""
-        return len(self._waiting) >= WINDOW or len(request) >= MAX_FRAME // WINDOW
+        return len(waiting) >= WINDOW or len(request) >= MAX_FRAME // WINDOW
 
-    def _steps(self, *last: Tuple[bytes, Hear]) -> Generator[Step, bytes, None]:
+    def _is_of_another_process(self) -> bool:
+        """Whether there was a fork since. What is sent or read here then is missing there."""
+        return self._process != getpid()
+
+    def _see_process(self) -> None:
+        if self._is_of_another_process():
+            raise InUse("this client was made in another process: make clients after a fork")
+
+    def _late(self) -> str:
+        """What it means that nothing came in time."""
+        if self._at is None or self._at.timeout is None:
+            return "the server took longer than the timeout"
+        said = f"the server at {self._at.where} didn't answer within {self._at.timeout:g} s"
+        return said if self._has_answered else f"{said}; all its workers may be busy (serve --workers)"
+
+    def _steps(self, *last: Exchange) -> Generator[Step, bytes, None]:
         """Sends what waits now, and these behind it. The answers to each window are heard before the next is sent."""
         if self.closed:
             self._waiting.clear()
@@ -62,12 +93,12 @@ class Exchanges:
         except BaseException as error:
             self.close()
             if isinstance(error, (socket.timeout, TimeoutError)):
-                raise TimedOut("the server took longer than the timeout") from error
+                raise TimedOut(self._late()) from error
             if isinstance(error, (OSError, ValueError)):
                 raise ConnectionClosed(f"the connection failed: {error}") from error
             raise
 
-    def _exchange(self, window: List[Tuple[bytes, Hear]]) -> Generator[Step, bytes, None]:
+    def _exchange(self, window: List[Exchange]) -> Generator[Step, bytes, None]:
         """Sends these requests together, and hears their answers. A server that ends the connection meanwhile may have answered some."""
         broken: Optional[ConnectionError] = None
         try:
@@ -76,26 +107,28 @@ class Exchanges:
             broken = error
         for request, hear in window:
             try:
-                answer = yield from self._answer(request)
+                frame = yield None
+                answer: Answer = DONE
+                if frame != b"\x80" or request[0] in LAST:
+                    answer = yield from self._answer(request, frame)
             except (ConnectionClosed, ConnectionError) as error:
                 raise broken or error
+            self._has_answered = True
             hear(answer)
         if broken is not None:
             self.close()
 
-    def _answer(self, request: bytes) -> Generator[Step, bytes, Answer]:
-        """The frames of a reply up to its last one, or the refusal in their place."""
-        asked = Opcode(request[0])
-        last, before = LAST.get(asked, Ok), BEFORE.get(asked, ())
+    def _answer(self, request: bytes, frame: bytes) -> Generator[Step, bytes, Answer]:
+        """The frames of a reply from this one up to its last, or the refusal in their place."""
+        last, before = LAST.get(request[0], Ok), BEFORE.get(request[0], ())
         replies: List[Reply] = []
         while True:
-            frame = yield self._length((yield 4))
             try:
                 reply = decode(frame)
             except ValueError as error:
                 raise ProtocolError(f"a reply that isn't understood: {error}: {frame[:32].hex()}") from error
             if isinstance(reply, Refused) and not replies:
-                return reply
+                return explained(reply, request, self._user)
             if isinstance(reply, Refused) or not isinstance(reply, (last, *before)):
                 raise ProtocolError(f"a reply out of place: {frame[:32].hex()}")
             replies.append(reply)
@@ -103,13 +136,14 @@ class Exchanges:
                 if not is_whole(request, replies):
                     raise ProtocolError(f"a list of {len(replies) - 1} that isn't what was asked for")
                 return tuple(replies)
+            frame = yield None
 
     @staticmethod
     def _length(head: bytes) -> int:
         """How many bytes the frame has that begins so."""
         length = int.from_bytes(head, "big")
         if length > MAX_FRAME:
-            raise ProtocolError(f"a reply of {length} bytes")
+            raise ProtocolError(f"a reply of {length} bytes: is a tabd server there?")
         return length
 
     def _ended(self) -> ConnectionClosed:
@@ -146,29 +180,43 @@ class Connection(Exchanges):
     One thread does so at a time. `break_off` is called first where it is closed, so that what couldn't be sent isn't waited for again.
     """
 
-    def __init__(self, reader: BinaryIO, writer: BinaryIO, break_off: Callable[[], None]) -> None:
-        super().__init__()
+    def __init__(
+        self,
+        reader: BinaryIO,
+        writer: BinaryIO,
+        break_off: Optional[Callable[[], None]],
+        user: Optional[str] = None,
+        at: Optional[Place] = None,
+    ) -> None:
+        super().__init__(user, at)
         self._reader, self._writer, self._break_off = reader, writer, break_off
-        self._in_use = Lock()
+        # whose turn it is, which is said and seen by one thread at a time; and the pipeline whose thread alone may ask
+        self._turn: Optional[object] = None
+        self._taking = RLock()
+        self.pipeline: Optional[Pipeline] = None
 
-    def collect(self, request: bytes, hear: Hear) -> None:
+    def collect(self, *exchanges: Exchange) -> None:
         """As `later`, for one thread at a time. The last request of a window and a large one are sent, with all that wait."""
-        with self._alone():
-            self.later(request, hear)
-            if self._is_enough(request):
-                self._send()
+        self._in_turn(self._collect, exchanges)
 
-    def send(self) -> None:
-        """Sends all that waits, in turn, and hears the answers to each window before it sends the next."""
-        with self._alone():
-            self._send()
+    def send(self, exchanges: Iterable[Exchange] = ()) -> None:
+        """Sends all that waits and these, in turn, and hears the answers to each window before it sends the next."""
+        self._in_turn(self._send_all, exchanges)
 
     def ask(self, request: bytes, hear: Optional[Callable[[Tuple[Reply, ...]], None]] = None) -> Tuple[Reply, ...]:
         """Sends a request behind all that waits, and gives its answer, which `hear` takes first, or raises its refusal."""
         taken = Taken(hear)
-        with self._alone():
-            self._send((sized(request), taken.take))
+        self._in_turn(self._send, (sized(request), taken.take))
         return taken.given()
+
+    def hold(self, pipeline: Pipeline) -> None:
+        """Lets the thread of this pipeline alone ask, as long as it is the `pipeline`."""
+        self._see_process()
+        with self._taking:
+            self._see_thread()
+            if self.pipeline is not None:
+                raise ValueError("a pipeline is open already")
+            self.pipeline = pipeline
 
     def ended(self) -> bool:
         """Whether it is closed, or something came where nothing was asked, such as its end. Nothing is sent to find out."""
@@ -179,35 +227,63 @@ class Connection(Exchanges):
         return bool(poll.poll(0))
 
     def close(self) -> None:
-        """Ends the connection. A thread that waits for an answer then has none."""
+        """Ends the connection. A thread that waits for an answer then has none. One of another process goes on there."""
         self.closed = True
-        with suppress(OSError):
-            self._break_off()
+        if self._is_of_another_process():
+            return
+        if self._break_off is not None:
+            with suppress(OSError):
+                self._break_off()
         self._shut()
 
-    @contextmanager
-    def _alone(self) -> Iterator[None]:
-        """Inside, no other thread sends or reads. One that would is told so, and nothing of it is sent."""
-        if not self._in_use.acquire(blocking=False):
-            raise InUse("another request of this client is under way: one thread uses a client at a time")
+    def _in_turn(self, does: Callable[..., None], *words: object) -> None:
+        """Does this while no other thread sends or reads. One that would is told so, and nothing of it is sent."""
+        self._see_process()
+        turn = object()
         try:
-            yield
+            with self._taking:
+                self._see_thread()
+                if self._turn is not None:
+                    raise InUse("another request of this client is under way: one thread uses a client at a time")
+                self._turn = turn
+            does(*words)
         finally:
-            self._in_use.release()
+            # nothing is called before the turn is over: an exception of a signal's handler comes behind a call
+            if self._turn is turn:
+                self._turn = None
             if self.closed:
                 self._shut()
 
+    def _see_thread(self) -> None:
+        if self.pipeline is not None and self.pipeline.thread != get_ident():
+            raise InUse("another thread has a pipeline of this client: one thread uses a client at a time")
+
     def _shut(self) -> None:
         """Closes the streams, unless a thread uses them, which does so at its end: one that is closed fails a reader in ways of its own."""
-        if self._in_use.acquire(blocking=False):
-            try:
-                for end in (self._writer.close, self._reader.close):
-                    with suppress(OSError):
-                        end()
-            finally:
-                self._in_use.release()
+        turn = object()
+        try:
+            with self._taking:
+                if self._turn is not None:
+                    return
+                self._turn = turn
+            for end in (self._writer.close, self._reader.close):
+                with suppress(OSError):
+                    end()
+        finally:
+            if self._turn is turn:
+                self._turn = None
 
-    def _send(self, *last: Tuple[bytes, Hear]) -> None:
+    def _collect(self, exchanges: Iterable[Exchange]) -> None:
+        for request, hear in exchanges:
+            self.later(request, hear)
+            if self._is_enough(self._waiting, request):
+                self._send()
+
+    def _send_all(self, exchanges: Iterable[Exchange]) -> None:
+        self._collect(exchanges)
+        self._send()
+
+    def _send(self, *last: Exchange) -> None:
         """Sends what waits now, and these behind it."""
         with closing(self._steps(*last)) as steps, suppress(StopIteration):
             step = next(steps)
@@ -220,8 +296,8 @@ class Connection(Exchanges):
                     step = steps.send(found)
 
     def _do(self, step: Step) -> bytes:
-        if isinstance(step, int):
-            return self._read(step)
+        if step is None:
+            return self._read(self._length(self._read(4)))
         self._writer.write(step)
         self._writer.flush()
         return b""

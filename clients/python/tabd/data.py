@@ -3,7 +3,7 @@ from __future__ import annotations
 
 import inspect
 from dataclasses import dataclass
-from typing import Any, Optional, Tuple, Union, overload
+from typing import Any, Callable, Optional, Tuple, Union, overload
 
 Text = Union[str, bytes]
 """What is sent as bytes; a str is sent as UTF-8. What is told is always bytes."""
@@ -16,7 +16,18 @@ TABLE_PERMISSIONS = ("READ", "WRITE", "ALTER_TABLE", "GRANT", "DROP_TABLE")
 CONSTRAINTS = ("keysize", "alphanum", "numeric", "visibility")
 
 
-def _as_call(it: Any) -> str:
+SHOWN, LONGEST = 60, 80
+"""Of a text over the longest that is shown whole, so many bytes or letters are shown."""
+
+
+def shortened(value: object) -> str:
+    """Its `repr`, or of a long text that of its begin, and how long it is."""
+    if not isinstance(value, (str, bytes)) or len(value) <= LONGEST:
+        return repr(value)
+    return f"{value[:SHOWN]!r}.. ({len(value)} {'bytes' if isinstance(value, bytes) else 'letters'})"
+
+
+def _as_call(it: Any, shown: Callable[[object], str] = repr) -> str:
     """The short call that makes it: in order as far as nothing is left out, and by name behind that."""
     said, left_out = [], False
     for name, parameter in inspect.signature(type(it)).parameters.items():
@@ -24,8 +35,13 @@ def _as_call(it: Any) -> str:
         if given == parameter.default:
             left_out = True
         else:
-            said.append(f"{name}={given!r}" if left_out else repr(given))
+            said.append(f"{name}={shown(given)}" if left_out else shown(given))
     return f"{type(it).__name__}({', '.join(said)})"
+
+
+def _as_short_call(it: Any) -> str:
+    """That call, with long texts shortened."""
+    return _as_call(it, shortened)
 
 
 @dataclass(frozen=True)
@@ -39,7 +55,7 @@ class Cell:
     timestamp: int
     value: bytes
 
-    __repr__ = _as_call
+    __repr__ = _as_short_call
 
 
 @dataclass(frozen=True)
@@ -53,7 +69,7 @@ class TextCell:
     timestamp: int
     value: str
 
-    __repr__ = _as_call
+    __repr__ = _as_short_call
 
 
 @dataclass(frozen=True, init=False)
@@ -84,9 +100,8 @@ class Put:
     ) -> None:
         if value is None:
             raise TypeError("Put: the value is missing. Say Put(family, qualifier, label, value) or Put(family, qualifier, value=..)")
-        # how a frozen dataclass sets its own fields
-        for name, given in (("family", family), ("qualifier", qualifier), ("label", label), ("value", value), ("timestamp", timestamp)):
-            object.__setattr__(self, name, given)
+        # past the `__setattr__` of a frozen dataclass, at once
+        self.__dict__.update(family=family, qualifier=qualifier, label=label, value=value, timestamp=timestamp)
 
     __repr__ = _as_call
 

@@ -5,7 +5,7 @@
         ConnectionClosed    the connection ended, failed or was closed
             TimedOut        the server took too long
         ProtocolError       the server said what isn't of the protocol
-        InUse               another thread uses the client
+        InUse               another thread uses the client, or it was made in another process
         NotText             a scan with text=True met a cell that isn't UTF-8
         PoolExhausted       all clients of a pool stayed lent
         PoolClosed          the pool was closed
@@ -15,9 +15,9 @@ What is wrong with the arguments of a call is a TypeError or a ValueError as eve
 """
 from __future__ import annotations
 
-from typing import ClassVar, Tuple
+from typing import ClassVar, Optional, Tuple
 
-from .data import Cell, Permission, Violation, Write
+from .data import Cell, Permission, Violation, Write, shortened
 
 
 class TabdError(Exception):
@@ -37,7 +37,10 @@ class ConnectionClosed(TabdError):
 
 
 class InUse(TabdError):
-    """Another thread uses the client. Nothing was sent, and the client goes on as it was."""
+    """Another thread uses the client, or has a pipeline of it; or a client, or batch writer, was made in another process, before a fork.
+
+    Nothing was sent, and the client goes on as it was.
+    """
 
 
 class NotText(TabdError, ValueError):
@@ -50,7 +53,8 @@ class NotText(TabdError, ValueError):
 
     def __str__(self) -> str:
         it = self.cell
-        key = f"row {it.row!r}, column {it.family!r} {it.qualifier!r}, label {it.label!r}, time {it.timestamp}"
+        row, family, qualifier, label = map(shortened, (it.row, it.family, it.qualifier, it.label))
+        key = f"row {row}, column {family} {qualifier}, label {label}, time {it.timestamp}"
         return f"the {self.part} isn't UTF-8: {key}"
 
 
@@ -82,7 +86,7 @@ class WritesFailed(TabdError):
         said = []
         if self.refused:
             write, refusal = self.refused[0]
-            first = f"row {write.row!r} of table {write.table!r}: {type(refusal).__name__}: {refusal}"
+            first = f"row {shortened(write.row)} of table {write.table!r}: {type(refusal).__name__}: {refusal}"
             said.append(f"{len(self.refused)} refused (the first: {first})")
         if self.unknown:
             said.append(f"{len(self.unknown)} without an answer")
@@ -109,6 +113,8 @@ class UnknownUser(Refused):
 
 
 class NoTable(Refused):
+    """There is no table of this name."""
+
     number = 2
 
     def __init__(self, table: str) -> None:
@@ -120,16 +126,23 @@ class NoTable(Refused):
 
 
 class PermissionDenied(Refused):
-    """The first permission that would do is missing."""
+    """The one who asks, `user`, lacks a permission: `permission` is the first that would do, and `instead` has those that would do too.
+
+    The permissions of `instead` are on the table where `permission` is on the system, the narrowest first.
+    """
 
     number = 3
+    user: Optional[str] = None
+    instead: Tuple[Permission, ...] = ()
 
     def __init__(self, permission: Permission) -> None:
         super().__init__(permission)
         self.permission = permission
 
     def __str__(self) -> str:
-        return str(self.permission)
+        *others, last = map(str, (*self.instead, self.permission))
+        who = "the user" if self.user is None else repr(self.user)
+        return f"{who} needs {', '.join(others)}{' or ' if others else ''}{last}"
 
 
 class BadAuthorizations(Refused):
@@ -146,9 +159,10 @@ class BadAuthorizations(Refused):
 
 
 class MalformedVisibility(Refused):
-    """An update's label is none; `offset` is how many bytes of it begin some label."""
+    """An update's label is none; `offset` is how many bytes of it begin some label. `label` has its bytes."""
 
     number = 5
+    label: Optional[bytes] = None
 
     def __init__(self, update: int, offset: int) -> None:
         super().__init__(update, offset)
@@ -156,10 +170,13 @@ class MalformedVisibility(Refused):
         self.offset = offset
 
     def __str__(self) -> str:
-        return f"the label of update {self.update} goes wrong at offset {self.offset}"
+        label = "" if self.label is None else f"{shortened(self.label.decode(errors='backslashreplace'))} "
+        return f"the label {label}of update {self.update} goes wrong at offset {self.offset}"
 
 
 class ConstraintViolation(Refused):
+    """A write fails constraints of its table; `violations` has each."""
+
     number = 6
 
     def __init__(self, violations: Tuple[Violation, ...]) -> None:
@@ -184,6 +201,8 @@ class TimestampNotAllowed(Refused):
 
 
 class EmptyMutation(Refused):
+    """A write has no updates."""
+
     number = 8
 
     def __str__(self) -> str:
@@ -217,6 +236,8 @@ class TooLarge(Refused):
 
 
 class TableExists(Refused):
+    """There is a table of this name already."""
+
     number = 10
 
     def __init__(self, table: str) -> None:
@@ -228,6 +249,8 @@ class TableExists(Refused):
 
 
 class UserExists(Refused):
+    """There is a user of this name already."""
+
     number = 11
 
     def __init__(self, user: str) -> None:
@@ -239,6 +262,8 @@ class UserExists(Refused):
 
 
 class NoUser(Refused):
+    """There is no user of this name, of whom something was asked."""
+
     number = 12
 
     def __init__(self, user: str) -> None:
@@ -250,6 +275,8 @@ class NoUser(Refused):
 
 
 class BadRange(Refused):
+    """No row is in a range, since it ends before it begins."""
+
     number = 13
 
     def __str__(self) -> str:
@@ -304,6 +331,8 @@ class BadFrame(Refused):
 
 
 class NoMemory(Refused):
+    """The server had no memory for a request, of which nothing was done."""
+
     number = 17
 
     def __str__(self) -> str:
@@ -311,6 +340,8 @@ class NoMemory(Refused):
 
 
 class RootFixed(Refused):
+    """`root` isn't dropped, nor are its system permissions changed."""
+
     number = 18
 
     def __str__(self) -> str:
@@ -318,6 +349,8 @@ class RootFixed(Refused):
 
 
 class GrantInvalid(Refused):
+    """The system permission GRANT was to be given or taken, which is root's alone."""
+
     number = 19
 
     def __str__(self) -> str:

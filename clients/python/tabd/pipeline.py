@@ -1,6 +1,7 @@
 """Writes that are sent many at a time."""
 from __future__ import annotations
 
+from threading import get_ident
 from typing import Dict
 
 from .connection import Connection
@@ -23,12 +24,13 @@ class Refusals:
 
 
 class Pipeline(Refusals):
-    """The writes of a client that wait, and what was answered."""
+    """The writes of a client that wait, and what was answered. It is of the thread that makes it."""
 
     def __init__(self, connection: Connection) -> None:
         super().__init__()
         self._connection = connection
+        self.thread = get_ident()
 
     def write(self, request: bytes) -> None:
         """Lets a write wait; the last of a window and a large one send all that wait."""
-        self._connection.collect(request, self.hear)
+        self._connection.collect((request, self.hear))

@@ -2,7 +2,7 @@
 from __future__ import annotations
 
 from dataclasses import dataclass
-from typing import Callable, Dict, Sequence, Tuple, Type, Union
+from typing import Callable, Dict, Optional, Sequence, Tuple, Type, Union
 
 from . import errors
 from .data import CONSTRAINTS, SYSTEM_PERMISSIONS, TABLE_PERMISSIONS, Cell, Permission, Rights, Status, Violation
@@ -42,7 +42,7 @@ Reply = Union[Ok, Cell, End, Opened, Row, RangeEnd, Status, Rights]
 Answer = Union[Tuple[Reply, ...], errors.Refused]
 """All frames that answer a request, or its refusal."""
 
-LAST: Dict[Opcode, Type[Reply]] = {
+LAST: Dict[int, Type[Reply]] = {
     Opcode.OPEN: Opened,
     Opcode.NEXT: End,
     Opcode.MANY: End,
@@ -52,7 +52,7 @@ LAST: Dict[Opcode, Type[Reply]] = {
 }
 """The frame that ends the answer to a request; Ok where none is named."""
 
-BEFORE: Dict[Opcode, Tuple[Type[Reply], ...]] = {
+BEFORE: Dict[int, Tuple[Type[Reply], ...]] = {
     Opcode.NEXT: (Cell,),
     Opcode.MANY: (Cell, RangeEnd),
     Opcode.SPLITS: (Row,),
@@ -210,3 +210,60 @@ def decode(frame: bytes) -> Union[Reply, errors.Refused]:
     reply = REPLIES[opcode](fields)
     fields.end()
     return reply
+
+
+# ---- What a refusal means for its request.
+
+INSTEAD: Dict[int, Tuple[str, ...]] = {
+    Opcode.DROP_TABLE: ("DROP_TABLE",),
+    Opcode.FLUSH: ("WRITE", "ALTER_TABLE"),
+    Opcode.COMPACT: ("WRITE", "ALTER_TABLE"),
+    Opcode.ADD_SPLIT: ("ALTER_TABLE",),
+    Opcode.SPLITS: ("ALTER_TABLE",),
+    Opcode.STATUS: ("ALTER_TABLE",),
+    Opcode.SET_CONSTRAINTS: ("ALTER_TABLE",),
+    Opcode.SET_VERSIONS: ("ALTER_TABLE",),
+    Opcode.SET_HORIZON: ("ALTER_TABLE",),
+    Opcode.GRANT: ("GRANT",),
+    Opcode.REVOKE: ("GRANT",),
+}
+"""Of requests for which a permission on the system is named those on the table that would do (docs/SCRIPT.md), the narrowest first."""
+
+
+def explained(refusal: errors.Refused, request: bytes, user: Optional[str]) -> errors.Refused:
+    """The refusal, with what it doesn't say but this request does."""
+    if isinstance(refusal, errors.PermissionDenied):
+        refusal.user, refusal.instead = user, _instead(request, refusal.permission)
+    if isinstance(refusal, errors.MalformedVisibility):
+        refusal.label = _label(request, refusal.update)
+    return refusal
+
+
+def _instead(request: bytes, missing: Permission) -> Tuple[Permission, ...]:
+    """What would do as well as the missing permission, and no more than that table."""
+    fields = Fields(request)
+    asked = fields.u8()
+    if missing.table is not None or asked not in INSTEAD:
+        return ()
+    if asked in (Opcode.GRANT, Opcode.REVOKE):
+        fields.name()
+        table = fields.permission().table
+    else:
+        table = fields.name()
+    return () if table is None else tuple([Permission(name, table) for name in INSTEAD[asked]])
+
+
+def _label(request: bytes, update: int) -> Optional[bytes]:
+    """The label of this update of a write, or None where it has no such."""
+    fields = Fields(request)
+    if fields.u8() != Opcode.WRITE:
+        return None
+    fields.text(), fields.text()
+    if update >= fields.u32():
+        return None
+    for at in range(update + 1):
+        is_put, _, _, label = fields.u8(), fields.text(), fields.text(), fields.text()
+        fields.take(8 if fields.u8() else 0)
+        if is_put:
+            fields.text()
+    return label

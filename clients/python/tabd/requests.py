@@ -2,6 +2,8 @@
 from __future__ import annotations
 
 from enum import IntEnum
+from functools import lru_cache
+from struct import Struct
 from typing import Iterable, Optional
 
 from . import checks
@@ -51,17 +53,26 @@ def _i64(number: int) -> bytes:
     return number.to_bytes(8, "big", signed=True)
 
 
+LENGTH = Struct(">I").pack
+
+
 def field(content: bytes) -> bytes:
     """A length and so many bytes; a frame has this form too."""
-    return len(content).to_bytes(4, "big") + content
+    return LENGTH(len(content)) + content
 
 
 def _name(value: Text, what: str) -> bytes:
+    return _name_of(value, what) if type(value) is str else field(checks.name(value, what))
+
+
+@lru_cache(maxsize=128)
+def _name_of(value: str, what: str) -> bytes:
     return field(checks.name(value, what))
 
 
-def _text(value: Text, what: str) -> bytes:
-    return field(checks.text(value, what))
+def _text(value: Text, what: str, part: str = "") -> bytes:
+    content = value.encode() if type(value) is str else checks.text(value, what + part)
+    return LENGTH(len(content)) + content
 
 
 def _counted(parts: list[bytes]) -> bytes:
@@ -83,15 +94,15 @@ def _permission(permission: str, table: Optional[Text]) -> bytes:
 
 
 def _timestamp(timestamp: Optional[int], what: str) -> bytes:
-    return _u8(0) if timestamp is None else _u8(1) + _i64(checks.time(timestamp, f"{what}.timestamp"))
+    return b"\0" if timestamp is None else b"\1" + _i64(checks.time(timestamp, f"{what}.timestamp"))
 
 
 def _update(update: Update, what: str) -> bytes:
     if not isinstance(update, (Put, Delete)):
         raise TypeError(f"{what}: a Put or a Delete is meant, not {type(update).__name__}")
-    column = _text(update.family, f"{what}.family") + _text(update.qualifier, f"{what}.qualifier") + _text(update.label, f"{what}.label")
+    column = _text(update.family, what, ".family") + _text(update.qualifier, what, ".qualifier") + _text(update.label, what, ".label")
     key = column + _timestamp(update.timestamp, what)
-    return _u8(1) + key + _text(update.value, f"{what}.value") if isinstance(update, Put) else _u8(0) + key
+    return b"\1" + key + _text(update.value, what, ".value") if isinstance(update, Put) else b"\0" + key
 
 
 def _bound(row: Optional[Text], with_it: bool, what: str) -> bytes:
@@ -106,10 +117,11 @@ def _range(rows: Range, what: str) -> bytes:
 
 
 def _column(column: Column, what: str) -> bytes:
-    if not isinstance(column, tuple):
+    if isinstance(column, (str, bytes, bytearray, memoryview)):
         return _text(column, what) + _u8(0)
-    if len(column) != 2:
-        raise TypeError(f"{what}: a family, or a pair of family and qualifier, is meant, not {len(column)} texts")
+    if not isinstance(column, tuple) or len(column) != 2:
+        found = f"{len(column)} texts" if isinstance(column, tuple) else type(column).__name__
+        raise TypeError(f"{what}: a family, or a tuple of family and qualifier, is meant, not {found}")
     return _text(column[0], f"{what}[0]") + _u8(1) + _text(column[1], f"{what}[1]")
 
 
@@ -159,9 +171,15 @@ def set_horizon(table: Text, horizon: int) -> bytes:
     return of_table(Opcode.SET_HORIZON, table) + _i64(checks.time(horizon, "horizon"))
 
 
+WRITE = _u8(Opcode.WRITE)
+PLACES = tuple([f"updates[{at}]" for at in range(16)])
+"""What the first updates of a write are called in a message."""
+
+
 def write(table: Text, row: Text, updates: Iterable[Update]) -> bytes:
     listed = checks.items(updates, "updates")
-    return of_table(Opcode.WRITE, table) + _text(row, "row") + _counted([_update(it, f"updates[{at}]") for at, it in enumerate(listed)])
+    parts = [_update(it, PLACES[at] if at < len(PLACES) else f"updates[{at}]") for at, it in enumerate(listed)]
+    return WRITE + _name(table, "table") + _text(row, "row") + LENGTH(len(parts)) + b"".join(parts)
 
 
 def open_session(table: Text, rows: Range, columns: Iterable[Column], authorizations: Iterable[Text]) -> bytes:

@@ -10,8 +10,8 @@ from typing import Any, Generator, Generic, Iterable, Iterator, List, Optional, 
 
 from . import checks, requests
 from .connection import Connection, Exchanges
-from .data import Cell, Range, TextCell
-from .errors import NotText
+from .data import Cell, Range, Text, TextCell
+from .errors import NoSession, NotText
 from .replies import End, RangeEnd, Reply
 from .text import text_of
 
@@ -22,10 +22,15 @@ S = TypeVar("S", bound="Asked[Any]")
 class Cells(Generic[C]):
     """What is common to sessions, however they ask: which cells were fetched, and which of those were given."""
 
-    def __init__(self, exchanges: Exchanges, number: int, batch: int, limit: Optional[int], newest: bool) -> None:
+    def __init__(
+        self, exchanges: Exchanges, number: int, batch: int, limit: Optional[int], newest: bool, table: Optional[Text] = None
+    ) -> None:
         self.number = number
+        self._table = table
         self.batch = checks.number(batch, "batch", 1)
         self.closed = False
+        # once it is closed, whether that was behind its last cell
+        self._is_exhausted: Optional[bool] = None
         # how many cells it may give yet
         self._left = sys.maxsize if limit is None else checks.number(limit, "limit", 0, sys.maxsize)
         self._newest = checks.flag(newest, "newest")
@@ -36,7 +41,8 @@ class Cells(Generic[C]):
         self._later = exchanges.later
 
     def __repr__(self) -> str:
-        return f"<{type(self).__name__} {self.number}{', closed' if self.closed else ''}>"
+        table = "" if self._table is None else f" of table {self._table!r}"
+        return f"<{type(self).__name__} {self.number}{table}{', closed' if self.closed else ''}>"
 
     def _told(self, cell: Cell) -> C:
         """The cell as such a session gives it."""
@@ -56,7 +62,13 @@ class Cells(Generic[C]):
             if not count or not self._more:
                 break
 
+    def _see_open(self) -> None:
+        """As the server would say, which isn't asked."""
+        if self._is_exhausted is not None:
+            raise NoSession(self.number)
+
     def _request(self, count: int) -> bytes:
+        self._see_open()
         return requests.next_cells(self.number, min(count, self._left))
 
     def _hear(self, replies: Tuple[Reply, ...]) -> None:
@@ -90,6 +102,11 @@ class Cells(Generic[C]):
         cells = self._give(taken)
         return cells, self._more or length_hint(self._ahead) > 0
 
+    def _request_of(self, ranges: Iterable[Range]) -> bytes:
+        request = requests.many(self.number, ranges)
+        self._see_open()
+        return request
+
     def _by_range(self, replies: Iterable[Reply]) -> List[List[C]]:
         return [[self._told(cell) for cell in self._shown(cells)] for cells in self._split(replies)]
 
@@ -105,7 +122,9 @@ class Cells(Generic[C]):
 
     def _close(self) -> None:
         if not self.closed:
-            self.closed, self._ahead = True, iter(())
+            # an iteration that was under way gives none of what is ahead
+            ahead = list(self._ahead)
+            self.closed, self._is_exhausted = True, not ahead and not self._more
             self._later(requests.close_session(self.number), lambda answer: None)
 
 
@@ -116,8 +135,17 @@ def _column(cell: Cell) -> Tuple[bytes, ...]:
 class Asked(Cells[C]):
     """What is common to the sessions of a `Client`."""
 
-    def __init__(self, connection: Connection, number: int, batch: int, *, limit: Optional[int] = None, newest: bool = False) -> None:
-        super().__init__(connection, number, batch, limit, newest)
+    def __init__(
+        self,
+        connection: Connection,
+        number: int,
+        batch: int,
+        *,
+        limit: Optional[int] = None,
+        newest: bool = False,
+        table: Optional[Text] = None,
+    ) -> None:
+        super().__init__(connection, number, batch, limit, newest, table)
         self._connection = connection
 
     def fetch(self, count: int) -> Tuple[List[C], bool]:
@@ -140,7 +168,7 @@ class Asked(Cells[C]):
 
         NoSession, as also where the limit has closed it, TooLarge ("ranges"), BadRange.
         """
-        return self._by_range(self._connection.ask(requests.many(self.number, ranges)))
+        return self._by_range(self._connection.ask(self._request_of(ranges)))
 
     def close(self) -> None:
         """Gives it up; the server keeps nothing of it then."""
@@ -151,12 +179,12 @@ class Asked(Cells[C]):
             yield self._give([cell])[0]
 
     def _cells(self) -> Iterator[Cell]:
-        while not self.closed:
+        while not self._is_exhausted:
             yield from self._ahead
-            if not self._more:
-                break
-            self._next(self.batch)
-        self.close()
+            if not self._more and not length_hint(self._ahead):
+                self.close()
+            if not self._is_exhausted:
+                self._next(self.batch)
 
     def __enter__(self: S) -> S:
         return self
@@ -189,7 +217,7 @@ class Session(OfBytes, Asked[Cell]):
 
     To iterate over its cells fetches `batch` of them at a time; another iteration, or a `fetch`, goes on behind the last cell that one
     gave. It is closed behind the last one, at the end of its `with`, or once nothing refers to it; the server is told so with the next
-    request of its client.
+    request of its client. One that was closed before its last cell raises NoSession, and behind that one it is empty.
     """
 
 

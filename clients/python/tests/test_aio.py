@@ -62,7 +62,10 @@ class Requests(Case):
             with self.refused(tabd.BadAuthorizations, b"x"):
                 await kim.scan("t", ["x"])
             self.assertRaises(TypeError, kim.scan, "t", "care")
-            self.assertEqual((repr(kim), kim.closed), ("<Client of 'kim'>", False))
+            self.assertEqual((repr(kim), kim.closed), (f"<Client of 'kim' at 127.0.0.1:{self.port}>", False))
+            scan = kim.scan("t")
+            self.assertEqual(repr(scan), "<tabd.aio.Scan of table 't'>")
+            self.assertRegex(repr(await scan), "^<Session [0-9]+ of table 't'>$")
 
         self.run_as("root", asks)
         self.run_as("kim", reads)
@@ -105,6 +108,37 @@ class Requests(Case):
             await session.close()
 
         self.run_as("root", asks)
+
+    def test_a_session_that_was_closed_is_not_empty(self) -> None:
+        async def asks(root: tabd.aio.Client) -> None:
+            async with root.scan("t") as session:
+                cells = session.__aiter__()
+                self.assertEqual((await cells.__anext__()).row, b"a")
+            again = session.__aiter__()
+            for ask in (cells.__anext__, again.__anext__, lambda: session.fetch(1), lambda: session.ranges([])):
+                with self.refused(tabd.NoSession, session.number):
+                    await ask()
+            async with root.scan("t", batch=2) as session:
+                self.assertEqual([found.row async for found in session], [b"a", b"b"])
+                self.assertEqual([found.row async for found in session], [])
+            self.assertEqual([found.row async for found in session], [])
+
+        for row in "ab":
+            self.root.write("t", row, [put()])
+        self.run_as("root", asks)
+
+    def test_an_awaited_client_closes_at_the_end_of_its_with(self) -> None:
+        async def asks() -> None:
+            async with await tabd.aio.connect(self.port, "root") as root:
+                await root.rights("t")
+            self.assertTrue(root.closed)
+
+        asyncio.run(asks())
+
+    def test_its_public_names(self) -> None:
+        names = {name for name in vars(tabd.aio) if name in tabd.aio.__all__}
+        self.assertEqual(names, set(tabd.aio.__all__))
+        self.assertLessEqual({"Client", "Scan", "Session", "TextSession", "connect"}, names)
 
     def test_sessions_that_are_given_up(self) -> None:
         async def asks(root: tabd.aio.Client) -> None:
@@ -168,6 +202,51 @@ class Requests(Case):
                             pass
                     print(1 / 0)
             self.assertEqual((await root.status("t")).records, 999)
+
+        self.run_as("root", asks)
+
+    def test_a_pipeline_takes_the_writes_of_its_own_task(self) -> None:
+        """What another task is told is of its own writes, once they are answered."""
+
+        async def asks(root: tabd.aio.Client) -> None:
+            async def others(label: str) -> None:
+                session = await root.scan("t", columns=["g"])
+                await root.write("t", f"other {label}", [Put("g", "q", value="v", label=label)])
+                self.assertEqual((await session.fetch(1))[0], [])
+                self.assertIsNotNone(await root.get("t", f"other {label}", "g", "q"))
+
+            async with root.pipeline() as refused:
+                await root.write("t", "a", [put()])
+                await root.write("t", "b", [put(label="a&")])
+                await asyncio.ensure_future(others(""))
+                # what its own task wrote waits yet
+                self.assertEqual(([found.row for found in self.root.scan("t", columns=["f"])], refused), ([], {}))
+                with self.refused(tabd.MalformedVisibility, 0, 2):
+                    await asyncio.ensure_future(others("x&"))
+                self.assertEqual((await root.status("t")).records, 2)
+                self.assertEqual(list(refused), [1])
+                refused.clear()
+                await root.write("t", "c", [put()])
+            self.assertEqual([found.row async for found in root.scan("t", columns=["f"])], [b"a", b"c"])
+
+        self.run_as("root", asks)
+
+    def test_each_task_may_have_a_pipeline(self) -> None:
+        async def asks(root: tabd.aio.Client) -> None:
+            async def work(number: int) -> "list[int]":
+                try:
+                    async with root.pipeline() as refused:
+                        for at in range(250):
+                            await root.write("t", f"{number} {at:03}", [put(label="a&" if at == number else "")])
+                            if at % 50 == 0:
+                                await asyncio.sleep(0)
+                except tabd.MalformedVisibility:
+                    pass
+                return list(refused)
+
+            self.assertEqual(await asyncio.gather(*map(work, range(4))), [[0], [1], [2], [3]])
+            self.assertEqual((await root.status("t")).records, 4 * 249)
+            self.assertEqual(root._connection.pipelines, {})
 
         self.run_as("root", asks)
 

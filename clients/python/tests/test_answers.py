@@ -1,5 +1,6 @@
 """What no server says: bytes in place of one."""
 import io
+import pickle
 import struct
 import unittest
 
@@ -79,3 +80,24 @@ class Answers(unittest.TestCase):
             with self.assertRaises(kind) as caught:
                 self.told(frame).flush("t")
             self.assertEqual((type(caught.exception), caught.exception.args), (kind, fields))
+
+    def test_who_is_no_server_of_tabd(self) -> None:
+        with self.assertRaises(tabd.ProtocolError) as caught:
+            tabd.Client(io.BytesIO(b"HTTP/1.1 400 Bad Request"), io.BytesIO(), "root")
+        self.assertEqual(str(caught.exception), "a reply of 1213486160 bytes: is a tabd server there?")
+
+    def test_what_a_refusal_means_for_its_request(self) -> None:
+        put = tabd.Put("f", "q", label="x" * 81, value="v")
+        for frame, updates, said in (
+            (b"\0\0\0\1\0\0\0\2", [put, tabd.Put("f", "q", "a&", "v", 5)], "label 'a&' of update 1 goes wrong at offset 2"),
+            (b"\0\0\0\1\0\0\0\2", [put, tabd.Delete("f", "q", b"a\xff")], r"label 'a\\xff' of update 1 goes wrong at offset 2"),
+            (b"\0\0\0\0\0\0\0\0", [put], f"label {'x' * 60!r}.. (81 letters) of update 0 goes wrong at offset 0"),
+            (b"\0\0\0\7\0\0\0\0", [put], "label of update 7 goes wrong at offset 0"),
+        ):
+            with self.assertRaises(tabd.MalformedVisibility) as caught:
+                self.told(b"\x81\5" + frame).write("t", "r", updates)
+            self.assertEqual(str(caught.exception), f"the {said}")
+            self.assertEqual(str(pickle.loads(pickle.dumps(caught.exception))), f"the {said}")
+        with self.assertRaises(tabd.MalformedVisibility) as caught:
+            self.told(b"\x81\5" + bytes(8)).flush("t")
+        self.assertIsNone(caught.exception.label)

@@ -52,6 +52,13 @@ class Arguments(unittest.TestCase):
         ):
             self.assertRaises(TypeError, ask)
 
+    def test_what_is_no_column(self) -> None:
+        for column, found in ((["f", "q"], "list"), (("f", "q", "x"), "3 texts"), (5, "int"), (None, "NoneType")):
+            with self.assertRaises(TypeError) as caught:
+                self.client.scan("t", columns=["f", column])
+            said = f"columns[1]: a family, or a tuple of family and qualifier, is meant, not {found}"
+            self.assertEqual(str(caught.exception), said)
+
     def test_label_and_value(self) -> None:
         put = Put("f", "q", "label", "value", 5)
         self.assertEqual(put, Put(family="f", qualifier="q", timestamp=5, value="value", label="label"))

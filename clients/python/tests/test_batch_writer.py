@@ -1,13 +1,16 @@
 """Batch writers: what is sent when, who waits, and what is told of it."""
 import copy
+import os
 import pickle
 import select
+import subprocess
+import sys
 import threading
 from typing import Any, Callable, List
 from unittest import mock
 
 from answering import OK, AnsweringCase, Link, beside
-from running import Case, tabd
+from running import CLIENT, Case, tabd
 from tabd import Put, Write
 
 NEVER = 1_000_000
@@ -129,6 +132,7 @@ class Writes(Case):
             self.assertEqual(writer._given, 0)
         for words in ({"max_bytes": 0}, {"latency": -1}, {"latency": float("nan")}, {"timeout": 0}):
             self.assertRaises(ValueError, self.writer, **words)
+        self.assertRaises(TypeError, self.writer, latency="1")
         with tabd.BatchWriter(f"tabd://root@127.0.0.1:{self.port}") as writer:
             writer.write("t", "r", [put()])
         self.assertEqual(self.rows(), [b"r"])
@@ -320,3 +324,30 @@ class Breaks(AnsweringCase):
         with self.assertRaises(tabd.WritesFailed) as caught:
             writer.close()
         self.assertEqual((len(caught.exception.unknown), type(caught.exception.__cause__)), (1, ConnectionRefusedError))
+
+    def test_the_end_of_a_with_says_what_is_unknown(self) -> None:
+        with self.assertRaises(tabd.WritesFailed) as caught, self.writer(1, latency=0) as writer:
+            writer.write("t", "a", [put()])
+            while True:
+                writer.write("t", "b", [put()])
+        self.assertEqual({write.row for write in caught.exception.unknown} - {"b"}, {"a"})
+        self.assertIsInstance(caught.exception.__context__, tabd.ConnectionClosed)
+        self.assertIs(caught.exception.__cause__, writer._broken)
+        with self.assertRaises(ZeroDivisionError), self.writer(1, latency=0) as writer:
+            writer.write("t", "a", [put()])
+            writer._thread.join()
+            print(1 / 0)
+        self.assertRaises(tabd.WritesFailed, writer.flush)
+
+
+class AtTheEnd(Case):
+    def test_what_waits_is_lost_with_a_warning(self) -> None:
+        """One that has nothing to lose says nothing."""
+        writes = "writer.write('t', 'r', [tabd.Put('f', 'q', value='v')])"
+        lost = r"ResourceWarning: <BatchWriter of 'root'> wasn't closed: 1 without an answer\n"
+        for then, said in ((writes, lost), (f"{writes}; writer.flush()", ""), (f"{writes}; writer.close()", "")):
+            program = f"import tabd; writer = tabd.BatchWriter({self.port}, 'root', latency={NEVER}); {then}"
+            words = [sys.executable, "-B", "-W", "always::ResourceWarning", "-c", program]
+            done = subprocess.run(words, capture_output=True, text=True, timeout=60, env={**os.environ, "PYTHONPATH": str(CLIENT)})
+            self.assertEqual(done.returncode, 0)
+            self.assertRegex(done.stderr, f"{said}" if said else "^$")

@@ -1,14 +1,17 @@
 """What breaks into a client, and what is left of it then: interrupts, errors inside a pipeline, refusals, servers that say nothing."""
 import gc
+import inspect
 import io
 import socket
 import struct
+import sys
 import tempfile
 import threading
 import unittest
 import unittest.mock
 import warnings
 import weakref
+from contextlib import suppress
 from typing import Any, List
 
 from running import Case, tabd
@@ -46,6 +49,38 @@ class Ends(unittest.TestCase):
             client.status("t")
         self.assertTrue(client.closed)
         self.assertRaises(tabd.ConnectionClosed, client.flush, "t")
+
+    def test_an_interrupt_wherever_it_comes_leaves_no_client_in_use(self) -> None:
+        """The handler of a signal raises its exception behind some call; here behind each in its turn."""
+
+        def interrupt(frame: Any, event: str, argument: Any) -> None:
+            nonlocal left
+            # (a generator that yields isn't behind a call)
+            if event == "c_return" or event == "return" and not frame.f_code.co_flags & inspect.CO_GENERATOR:
+                left -= 1
+                if not left:
+                    raise KeyboardInterrupt
+
+        def writes(client: tabd.Client) -> None:
+            with client.pipeline():
+                client.write("t", "r", [Put("f", "q", value="v")])
+
+        for ask in (tabd.Client.rotate, writes):
+            for at in range(1, 1000):
+                client, left = told(*[b"\x80"] * 4), at
+                sys.setprofile(interrupt)
+                try:
+                    ask(client)
+                except KeyboardInterrupt:
+                    pass
+                finally:
+                    sys.setprofile(None)
+                if left > 0:
+                    break
+                with suppress(tabd.ConnectionClosed):
+                    client.rotate()
+                    writes(client)
+            self.assertGreater(at, 5)
 
     def test_a_client_breaks_off_before_it_writes_what_is_left(self) -> None:
         ends: List[str] = []

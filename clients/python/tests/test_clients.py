@@ -4,9 +4,12 @@ import socket
 import threading
 import time
 import unittest
+from functools import partial
+from typing import Optional
 
 from running import Case, tabd
 from tabd import Put
+from tabd.places import Place
 
 
 class Clients(Case):
@@ -91,20 +94,35 @@ class Ends(Case):
 class Timeouts(unittest.TestCase):
     """A server that lets its client wait, in place of which stands a socket that nobody answers at."""
 
-    def silent(self) -> tabd.Client:
+    def silent(self, at: Optional[Place] = None) -> tabd.Client:
         """A client whose Hello alone is answered."""
         ours, theirs = socket.socketpair()
         self.addCleanup(theirs.close)
         theirs.sendall(b"\0\0\0\1\x80")
         ours.settimeout(0.1)
         with ours:
-            client = tabd.Client(ours.makefile("rb"), ours.makefile("wb"), "root", break_off=lambda: ours.shutdown(socket.SHUT_RDWR))
+            break_off = partial(ours.shutdown, socket.SHUT_RDWR)
+            client = tabd.Client(ours.makefile("rb"), ours.makefile("wb"), "root", break_off=break_off, at=at)
         self.addCleanup(client.close)
         return client
 
     def test_a_hello_that_is_not_answered(self) -> None:
-        with socket.create_server(("127.0.0.1", 0)) as listener, self.assertRaises(tabd.TimedOut):
-            tabd.connect(listener.getsockname()[1], "root", timeout=0.1)
+        with socket.create_server(("127.0.0.1", 0)) as listener:
+            port = listener.getsockname()[1]
+            with self.assertRaises(tabd.TimedOut) as caught:
+                tabd.connect(port, "root", timeout=0.1)
+        said = f"the server at 127.0.0.1:{port} didn't answer within 0.1 s"
+        self.assertEqual(str(caught.exception), f"{said}; all its workers may be busy (serve --workers)")
+
+    def test_where_a_request_is_not_answered(self) -> None:
+        for at, said in (
+            (Place(9997, "root", "127.0.0.1", 5, 0), "the server at 127.0.0.1:9997 didn't answer within 5 s"),
+            (Place("/run/sock", "root", "", 0.5, 0), "the server at /run/sock didn't answer within 0.5 s"),
+            (None, "the server took longer than the timeout"),
+        ):
+            with self.assertRaises(tabd.TimedOut) as caught:
+                self.silent(at).status("t")
+            self.assertEqual(str(caught.exception), said)
 
     def test_a_request_that_is_not_answered(self) -> None:
         client = self.silent()

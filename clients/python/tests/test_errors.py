@@ -9,8 +9,8 @@ from tabd import Permission, Violation, replies
 MESSAGES = {
     "'eve', who asks, is no user": (tabd.UnknownUser("eve"), "user"),
     "there is no table 'labs'": (tabd.NoTable("labs"), "table"),
-    "READ on table 'labs'": (tabd.PermissionDenied(Permission("READ", "labs")), "permission"),
-    "CREATE_TABLE on the system": (tabd.PermissionDenied(Permission("CREATE_TABLE")), "permission"),
+    "the user needs READ on table 'labs'": (tabd.PermissionDenied(Permission("READ", "labs")), "permission"),
+    "the user needs CREATE_TABLE on the system": (tabd.PermissionDenied(Permission("CREATE_TABLE")), "permission"),
     r"the user doesn't hold 'a\\xff'": (tabd.BadAuthorizations(b"a\xff"), "term"),
     "the label of update 3 goes wrong at offset 7": (tabd.MalformedVisibility(3, 7), "update", "offset"),
     "numeric (code 1) in update 0, alphanum (code 2) in update 4": (
@@ -71,3 +71,7 @@ class Errors(unittest.TestCase):
         for kind, words in ((tabd.TooLarge, tabd.TooLarge.LIMITS), (tabd.BadFrame, tabd.BadFrame.REASONS), (tabd.BadSplit, tabd.BadSplit.REASONS)):
             for word, message in words.items():
                 self.assertEqual(str(kind(word)), f"{word}: {message}")
+
+    def test_each_class_says_what_it_is(self) -> None:
+        kinds = [kind for kind in vars(tabd.errors).values() if isinstance(kind, type) and issubclass(kind, Exception)]
+        self.assertEqual([kind.__name__ for kind in kinds if not kind.__dict__.get("__doc__")], [])

@@ -1,4 +1,5 @@
 """URLs in place of a port or a path, and servers that don't listen yet."""
+import errno
 import os
 import socket
 import tempfile
@@ -41,9 +42,32 @@ class Urls(unittest.TestCase):
             self.assertEqual(read(url), said, url)
 
     def test_what_is_no_url_stays_as_it_is(self) -> None:
-        for port in (9997, "/run/tabd.sock", "tabd.sock", "tabd:/x", "./tabd://x", "http://ann@h:1", "/x?timeout=5", "a%20b", ""):
+        for port in (9997, "/run/tabd.sock", "tabd.sock", "tabd:/x", "./h:1", "/run/a:1", "h:1x", "/x?timeout=5", "a%20b", "a1", ""):
             self.assertEqual(read(port, b"kim", "h", None, 3), (port, b"kim", "h", None, 3))
-        self.assertEqual(read(Path("/run/tabd.sock"), "kim"), ("/run/tabd.sock", "kim", *DEFAULTS))
+        for path in ("/run/tabd.sock", "h:1", "9997"):
+            self.assertEqual(read(Path(path), "kim"), (path, "kim", *DEFAULTS))
+
+    def test_what_was_meant_for_a_url(self) -> None:
+        for given, shown in (
+            ("127.0.0.1:9997", None), ("root@h:1", None), ("[::1]:9997", None), ("http://ann@h:1", None), ("./tabd://x", None),
+            ("postgres://ann:word@h:1/x", "postgres://ann:..@h:1/x"), ("ann:word@h:1", "ann:..@h:1"),
+        ):
+            for user in ((), ("root",)):
+                said = str(self.raised(given, *user))
+                self.assertEqual(said, f"{shown or given!r} is not a URL of tabd: tabd://ann@127.0.0.1:9997 is meant")
+        error = self.raised("9997", "root")
+        self.assertEqual((type(error), str(error)), (TypeError, "port: a number is meant, and '9997' is a text"))
+
+    def test_why_it_is_no_url(self) -> None:
+        meant = "is not a URL of tabd: tabd://ann@127.0.0.1:9997 is meant, or tabd+unix://ann@/run/tabd.sock"
+        for url, shown, why in (
+            ("tabd://ann@h:x", None, "; the port 'x' is not a number"),
+            ("tabd://ann@[::1]:x/y", None, "; the port 'x' is not a number"),
+            ("tabd://ann:word@h:1", "tabd://ann:..@h:1", "; tabd has no passwords"),
+            ("tabd+unix://ann:word@/run", "tabd+unix://ann:..@/run", "; tabd has no passwords"),
+            ("tabd://a@b@h:1", None, ""),
+        ):
+            self.assertEqual(str(self.raised(url)), f"{shown or url!r} {meant}{why}")
 
     def test_what_is_a_wrong_url(self) -> None:
         for url in (
@@ -55,7 +79,7 @@ class Urls(unittest.TestCase):
         ):
             with self.assertRaisesRegex(ValueError, "tabd(://|\\+unix://)", msg=url):
                 tabd.connect(url)
-        self.assertNotIn("word", str(self.raised("tabd://ann:word@h:1")))
+        self.assertNotIn(":word", str(self.raised("tabd://ann:word@h:1")))
 
     def raised(self, url: str, *arguments: Any, **named: Any) -> Exception:
         """What it comes to before anything is asked of the network."""
@@ -96,6 +120,13 @@ class Urls(unittest.TestCase):
         for what, named in (("host", {"host": "g"}), ("timeout", {"timeout": 6}), ("timeout", {"timeout": None}), ("wait", {"wait": 3})):
             self.assertRegex(str(self.raised(url, **named)), f"^{what}: the URL says .*, and the argument ")
         self.assertEqual(read("tabd://ann@h:1", None, timeout=None, wait=3), (1, "ann", "h", None, 3))
+
+    def test_seconds_that_are_no_number(self) -> None:
+        for what in ("timeout", "wait"):
+            for wrong in ("5", b"5", True, [5]):
+                error = self.raised(1, "root", **{what: wrong})
+                said = f"{what}: a number of seconds is meant, not {type(wrong).__name__}"
+                self.assertEqual((type(error), str(error)), (TypeError, said))
 
     def test_what_is_no_wait(self) -> None:
         for wait in (-1, float("nan"), float("inf"), 1_000_000_001):
@@ -191,3 +222,26 @@ class Waits(unittest.TestCase):
         self.assertRaises(NotADirectoryError, self.connect, self.path + "/none", iter([]))
         self.assertRaises(tabd.OutOfRange, self.connect, 65536, iter([]))
         self.assertEqual(self.pauses, [])
+
+    def test_it_says_where_nobody_listens(self) -> None:
+        with socket.socket() as listener, socket.socket(socket.AF_UNIX) as dead:
+            listener.bind(("127.0.0.1", 0))
+            dead.bind(self.path)
+            port = listener.getsockname()[1]
+            for place, said in ((port, f"127.0.0.1:{port}: nobody listens there"), (self.path, f"nobody listens there: {self.path!r}")):
+                with self.assertRaises(ConnectionRefusedError) as caught:
+                    tabd.connect(place, "root")
+                self.assertEqual(str(caught.exception), f"[Errno {errno.ECONNREFUSED}] {said}")
+                self.assertEqual(caught.exception.errno, errno.ECONNREFUSED)
+
+    def test_other_errors_say_where(self) -> None:
+        for raised, said in (
+            (socket.timeout("timed out"), "h:1: no connection within 5 s"),
+            (socket.gaierror(-2, "Name or service not known"), "[Errno -2] h:1: Name or service not known"),
+            (OSError("odd"), "h:1: odd"),
+        ):
+            with mock.patch("socket.create_connection", side_effect=raised), self.assertRaises(type(raised)) as caught:
+                tabd.connect(1, "root", "h", 5)
+            self.assertEqual((str(caught.exception), caught.exception.errno), (said, raised.errno))
+        with self.assertRaisesRegex(OSError, "^n{200}: "):
+            tabd.connect("n" * 200, "root")

@@ -1,11 +1,14 @@
 """Pools: who has a client, when there is none, and which are replaced."""
+import inspect
+import queue
 import select
 import threading
+import time
 from contextlib import ExitStack
-from typing import Any, List, Set
+from typing import Any, Callable, Set
 from unittest import mock
 
-from answering import OK, AnsweringCase, Link, beside
+from answering import OK, AnsweringCase, Link, agree, beside
 from running import Case, tabd
 from tabd import Put
 
@@ -68,7 +71,7 @@ class Lent(Case):
     def test_arguments(self) -> None:
         for words, kind in (
             ({"size": 0}, ValueError), ({"size": 1.5}, TypeError), ({"timeout": -1}, ValueError), ({"client_timeout": 0}, ValueError),
-            ({"wait": -1}, ValueError),
+            ({"wait": -1}, ValueError), ({"idle": -1}, ValueError), ({"idle": "5"}, TypeError), ({"timeout": "5"}, TypeError),
         ):
             self.assertRaises(kind, tabd.Pool, self.port, "root", **words)
         self.assertRaises(TypeError, tabd.Pool, self.port)
@@ -100,7 +103,7 @@ class Waits(AnsweringCase):
                 return client
 
         pool, waits = self.pool(size=1, timeout=None), threading.Event()
-        with mock.patch.object(pool, "_changed", Noting(waits)):
+        with mock.patch.object(pool, "_changed", Noting(waits, pool._lock)):
             with pool.client() as client:
                 thread, result = beside(take)
                 waits.wait()
@@ -128,7 +131,7 @@ class Waits(AnsweringCase):
 
         self.serve = silent
         pool, waits = self.pool(size=2, timeout=None), threading.Event()
-        with mock.patch.object(pool, "_changed", Noting(waits)):
+        with mock.patch.object(pool, "_changed", Noting(waits, pool._lock)):
             with pool.client() as idle:
                 asking, asking_result = beside(asks)
                 asked.wait()
@@ -145,25 +148,109 @@ class Waits(AnsweringCase):
         pool.close()
 
     def test_a_close_while_a_client_is_made(self) -> None:
-        made: List[tabd.Client] = []
+        made: "queue.Queue[tabd.Client]" = queue.Queue()
 
         def connecting(*words: Any, **named: Any) -> tabd.Client:
             pool.close()
-            made.append(tabd.connect(*words, **named))
-            return made[0]
+            client = tabd.connect(*words, **named)
+            made.put(client)
+            return client
 
         with mock.patch("tabd.pool.connect", connecting):
             pool = self.pool()
             with self.assertRaises(tabd.PoolClosed), pool.client():
                 pass
-        self.assertTrue(made[0].closed)
+        client = made.get()
+        until(lambda: client.closed)
+
+    def test_who_waits_for_a_new_client_takes_one_that_comes_back(self) -> None:
+        """The server has one worker, which the first client holds; what connects further isn't answered."""
+
+        def take() -> tabd.Client:
+            with pool.client() as client:
+                return client
+
+        def one_at_a_time(link: Link) -> None:
+            with worker:
+                agree(link)
+
+        worker, self.serve = threading.Lock(), one_at_a_time
+        pool = self.pool(size=3)
+        with pool.client() as client:
+            threads = [beside(take) for _ in range(2)]
+            until(lambda: len(self.links) == 3)
+            self.assertEqual([thread.is_alive() for thread, _ in threads], [True, True])
+        for thread, result in threads:
+            thread.join()
+            self.assertEqual(result, [client])
+        self.assertFalse(client.closed)
+
+    def test_one_that_was_made_for_nobody_is_lent_later(self) -> None:
+        def hold(link: Link) -> None:
+            for _ in link.requests():
+                if len(self.links) > 1:
+                    let.wait()
+                link.say(OK)
+
+        let, self.serve = threading.Event(), hold
+        self.addCleanup(let.set)
+        pool = self.pool(size=2)
+        with ExitStack() as stack:
+            with pool.client() as client:
+                waiting, result = beside(lambda: stack.enter_context(pool.client()))
+                until(lambda: len(self.links) == 2)
+            waiting.join()
+            self.assertEqual(result, [client])
+            let.set()
+            until(lambda: len(pool._free) == 1)
+            with pool.client() as other:
+                self.assertIsNot(other, client)
+        self.assertEqual(len(self.links), 2)
+
+    def test_one_that_nobody_has_is_closed(self) -> None:
+        pool = self.pool(size=2, idle=0.05)
+        for _ in range(2):
+            with pool.client() as one, pool.client() as other:
+                pass
+            until(lambda: one.closed and other.closed)
+        self.assertEqual((len(self.links), pool._free), (4, []))
+        until(lambda: not pool._is_closing_idle)
+        with self.pool(idle=None) as pool:
+            with pool.client() as client:
+                pass
+            self.assertFalse(client.closed or pool._is_closing_idle)
+
+    def test_one_that_somebody_has_stays(self) -> None:
+        with self.pool(idle=0.01).client() as client:
+            threading.Event().wait(0.1)
+            client.rotate()
+
+    def test_a_close_ends_who_closes_idle_clients(self) -> None:
+        pool = self.pool(idle=1000)
+        with pool.client():
+            pass
+        self.assertTrue(pool._is_closing_idle)
+        pool.close()
+        until(lambda: not pool._is_closing_idle)
+
+    def test_unless_told_otherwise(self) -> None:
+        named = {name: it.default for name, it in inspect.signature(tabd.Pool).parameters.items()}
+        self.assertEqual((named["size"], named["idle"], named["timeout"]), (4, 10, 60))
+
+
+def until(happens: "Callable[[], object]") -> None:
+    """Waits until it does."""
+    end = time.monotonic() + 20
+    while not happens():
+        assert time.monotonic() < end, "it doesn't happen"
+        time.sleep(0.001)
 
 
 class Noting(threading.Condition):
     """Tells that a thread waits."""
 
-    def __init__(self, waits: threading.Event) -> None:
-        super().__init__()
+    def __init__(self, waits: threading.Event, lock: Any) -> None:
+        super().__init__(lock)
         self._waits = waits
 
     def wait(self, timeout: Any = None) -> bool:

@@ -29,6 +29,30 @@ class Refusals(Case):
         with self.refused(tabd.GrantInvalid):
             self.root.grant("root", "GRANT")
 
+    def test_of_permissions_that_would_do(self) -> None:
+        """Of those that are named each one by itself does."""
+        self.root.create_user("kim")
+        kim, table, system = self.client("kim"), "on table 't'", "on the system"
+        alter = f"ALTER_TABLE {table} or ALTER_TABLE {system}"
+        for ask, said in (
+            (lambda: kim.scan("t"), f"READ {table}"), (lambda: kim.write("t", "r", [Put("f", "q", value="v")]), f"WRITE {table}"),
+            (lambda: kim.flush("t"), f"WRITE {table}, {alter}"), (lambda: kim.compact("t"), f"WRITE {table}, {alter}"),
+            (lambda: kim.splits("t"), alter), (lambda: kim.status("t"), alter), (lambda: kim.set_constraints("t", []), alter),
+            (lambda: kim.set_versions("t", 1), alter), (lambda: kim.set_horizon("t", -(1 << 63)), alter),
+            (lambda: kim.grant("kim", "READ", "t"), f"GRANT {table} or ALTER_TABLE {system}"),
+            (lambda: kim.revoke("kim", "READ", "t"), f"GRANT {table} or ALTER_TABLE {system}"),
+            (lambda: kim.create_user("eve"), f"CREATE_USER {system}"), (lambda: kim.grant("kim", "SYSTEM"), f"GRANT {system}"),
+            (lambda: kim.drop_table("t"), f"DROP_TABLE {table} or DROP_TABLE {system}"),
+        ):
+            with self.assertRaises(tabd.PermissionDenied) as caught:
+                ask()
+            self.assertEqual(str(caught.exception), f"'kim' needs {said}")
+            for permission in caught.exception.instead:
+                self.root.grant("kim", permission.name, permission.table)
+                ask()
+                if permission.name != "DROP_TABLE":
+                    self.root.revoke("kim", permission.name, permission.table)
+
     def test_of_scans(self) -> None:
         self.root.set_authorizations("root", ["a"])
         with self.refused(tabd.BadAuthorizations, b"b"):

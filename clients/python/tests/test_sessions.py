@@ -38,10 +38,31 @@ class Sessions(Case):
         cells = iter(session)
         next(cells)
         session.close()
-        self.assertEqual(list(session), [])
         self.assertRaises(tabd.NoSession, session.fetch, 1)
-        # an iteration that was under way says that it isn't the end
+        # an iteration that was under way says that it isn't the end, and gives nothing that was fetched before
         self.assertRaises(tabd.NoSession, list, cells)
+
+    def test_one_that_was_closed_is_not_empty(self) -> None:
+        for text in (False, True):
+            with self.root.scan("t", text=text) as session:
+                pass
+            session.close()
+            for ask in (lambda: list(session), lambda: session.fetch(1), lambda: session.ranges([])):
+                with self.refused(tabd.NoSession, session.number):
+                    ask()
+        with self.root.scan("t") as session:
+            next(iter(session))
+        self.assertRaises(tabd.NoSession, list, session)
+
+    def test_one_that_is_exhausted_is_empty(self) -> None:
+        for limit in (None, 2, 0):
+            with self.root.scan("t", limit=limit) as session:
+                self.assertEqual(len(list(session)), 4 if limit is None else limit)
+                self.assertEqual(list(session), [])
+            self.assertEqual(list(session), [])
+        with self.root.scan("t") as session:
+            self.assertEqual((len(session.fetch(5)[0]), list(session)), (4, []))
+        self.assertEqual(list(session), [])
 
     def test_it_closes_behind_the_last_cell(self) -> None:
         session = self.root.scan("t", batch=3)

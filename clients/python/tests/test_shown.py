@@ -1,9 +1,11 @@
 """What is shown of objects at a prompt: `repr`."""
+import inspect
 import io
 import unittest
 
 from running import cell, tabd
 from tabd import Delete, Put, Range, TextCell
+from tabd.places import Place
 
 ANSWERED = b"\0\0\0\1\x80" + b"\0\0\0\5\x84\0\0\0\7"
 
@@ -39,11 +41,31 @@ class Shown(unittest.TestCase):
         for user, shown in (("root", "<Client of 'root'"), (b"kim", "<Client of b'kim'")):
             asker = client(user)
             session = asker.scan("t")
-            self.assertEqual((repr(asker), repr(session)), (f"{shown}>", "<Session 7>"))
+            self.assertEqual((repr(asker), repr(session)), (f"{shown}>", "<Session 7 of table 't'>"))
             session.close()
             asker.close()
-            self.assertEqual((repr(asker), repr(session)), (f"{shown}, closed>", "<Session 7, closed>"))
-        self.assertEqual(repr(client("root").scan("t", text=True)), "<TextSession 7>")
+            self.assertEqual((repr(asker), repr(session)), (f"{shown}, closed>", "<Session 7 of table 't', closed>"))
+        self.assertEqual(repr(client("root").scan("t", text=True)), "<TextSession 7 of table 't'>")
+
+    def test_where_a_client_is(self) -> None:
+        for place, shown in (((9997, "h"), "h:9997"), ((9997, "::1"), "[::1]:9997"), (("/run/sock", "h"), "/run/sock")):
+            at = Place(place[0], "root", place[1], 5, 0)
+            there = tabd.Client(io.BytesIO(ANSWERED), io.BytesIO(), "root", at=at)
+            self.assertEqual(repr(there), f"<Client of 'root' at {shown}>")
+
+    def test_long_parts_of_cells_are_shortened(self) -> None:
+        for value, shown in ((b"v" * 80, repr(b"v" * 80)), (b"v" * 81, f"{b'v' * 60!r}.. (81 bytes)")):
+            self.assertEqual(repr(cell(b"r", value)), f"Cell(b'r', b'f', b'q', b'', 5, {shown})")
+        long = cell(b"r" * 1000, b"\xff" * 1000)
+        error = tabd.NotText(long, "value")
+        for said in (repr(long), repr(error), str(error), repr(TextCell("r", "f", "q", "", 5, "é" * 1000))):
+            self.assertLess(len(said), 500)
+        self.assertIn("(1000 letters)", said)
+
+    def test_help_shows_no_function(self) -> None:
+        for kind in (tabd.Client, tabd.Pool, tabd.BatchWriter, tabd.connect):
+            self.assertNotIn("<function", str(inspect.signature(kind)))
+        self.assertNotIn(inspect.signature(tabd.Client.scan).return_annotation, ("Any", inspect.Signature.empty))
 
     def test_what_never_began(self) -> None:
         asker = tabd.Client.__new__(tabd.Client)

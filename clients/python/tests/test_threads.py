@@ -3,12 +3,22 @@ import socket
 import struct
 import threading
 import unittest
+from contextlib import suppress
 from typing import Callable, List
 
 from running import Case, tabd
 from tabd import Put
 
 THREADS = 4
+
+
+def failure(work: Callable[[], object]) -> "List[BaseException]":
+    """What it raises."""
+    try:
+        work()
+    except BaseException as error:
+        return [error]
+    return []
 
 
 def at_once(work: Callable[[int], None]) -> "List[BaseException]":
@@ -51,21 +61,34 @@ class Threads(Case):
         self.assertFalse(self.root.closed)
         self.assertEqual(sorted(done), [cell.row.decode() for cell in self.root.scan("t")])
 
-    def test_each_write_of_a_pipeline_is_done_or_says_so(self) -> None:
-        done: List[str] = []
-
-        def writes(number: int) -> None:
-            for turn in range(300):
-                row = f"{number} {turn}"
-                try:
-                    self.root.write("t", row, [Put("f", "q", value=row, timestamp=5)])
-                    done.append(row)
-                except tabd.InUse:
-                    pass
+    def test_a_pipeline_is_of_the_thread_that_opens_it(self) -> None:
+        def asks(number: int) -> None:
+            for turn in range(100):
+                for ask in (
+                    lambda: self.root.write("t", f"{number} {turn}", [Put("f", "q", value="v")]), lambda: self.root.status("t"),
+                    lambda: self.root.pipeline().__enter__(),
+                ):
+                    with self.assertRaisesRegex(tabd.InUse, "^another thread has a pipeline of this client: "):
+                        ask()
 
         with self.root.pipeline() as refused:
-            self.assertEqual(at_once(writes), [])
-        self.assertEqual((refused, sorted(done)), ({}, [cell.row.decode() for cell in self.root.scan("t")]))
+            self.root.write("t", "a", [Put("f", "q", value="v")])
+            self.assertEqual(at_once(asks), [])
+            self.root.write("t", "b", [Put("f", "q", "a&", "v")])
+            self.assertEqual((self.root.status("t").records, list(refused)), (1, [1]))
+            refused.clear()
+        self.assertEqual([cell.row for cell in self.root.scan("t")], [b"a"])
+
+    def test_a_thread_may_ask_once_the_pipeline_of_another_has_ended(self) -> None:
+        for error in (None, ZeroDivisionError):
+            with suppress(ZeroDivisionError), self.root.pipeline():
+                if error:
+                    raise error
+            raised: List[BaseException] = []
+            thread = threading.Thread(target=lambda: raised.extend(failure(self.root.rotate)))
+            thread.start()
+            thread.join()
+            self.assertEqual(raised, [])
 
     def test_a_session_gives_each_cell_once(self) -> None:
         with self.root.pipeline():
