@@ -1,7 +1,7 @@
 #!/usr/bin/env bash
 # All clients by one suite (tests/clients/suite.py): the one in Python, and the one in Java, which is built here. Then Accumulo's behaviour by
-# both (accumulo_cases.py, AccumuloCases.java), programs for Accumulo moved over (programs.py), and what breaks into the client in Java while
-# others use it (Breaks.java).
+# both (accumulo_cases.py, AccumuloCases.java), programs for Accumulo moved over (programs.py), what of the client in Java needs no server
+# (Pieces.java), and what breaks into it while others use it (Breaks.java).
 # Usage: tests/clients.sh [--scripts N] [--seed S]   (from anywhere; wants python3, and a JDK for the client in Java; TABD names another program)
 set -u
 top=$(cd "$(dirname -- "${BASH_SOURCE[0]}")/.." && pwd)
@@ -25,6 +25,7 @@ if command -v java >/dev/null && command -v javac >/dev/null && command -v jar >
         drivers+=(-- java "${java[@]}" Driver -- accumulo+ "${java[@]}" AccumuloDriver)
         part programs python3 -B "$here/programs.py" "$TABD" "$work/client.jar" &
         part java python3 -B "$here/accumulo_cases.py" "$TABD" "${java[@]}" AccumuloCases &
+        part pieces "${java[@]}" Pieces &
         part breaks "${java[@]}" Breaks &
     else
         echo 'FAILED: the client in Java is built'

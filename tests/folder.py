@@ -252,6 +252,7 @@ def disks_that_sync_no_names():
     env = {**os.environ, "LD_PRELOAD": os.path.abspath("killing.so"), "KILL_AT": "0", "HOW": "unable", "KILLED": os.path.abspath("killed")}
     done = subprocess.run([PROGRAM, "script", "--store", STORE], input="createtable t\nload none\n", capture_output=True, text=True, env=env, timeout=60)
     told = "note: %s: the names of its files may not be on the disk: Invalid argument (os error 22)\n" % STORE
+    told += "fault: none: the image can't be read: No such file or directory (os error 2)\n"
     count("it is told once", (done.stdout, done.returncode, done.stderr) == ("ok\nfault load io\n", 0, told), done)
     with open("killed", encoding="ascii") as file:
         synced = file.read().split("\n")
@@ -283,7 +284,7 @@ def older():
     again = {each: bytes.fromhex(text) for each, text in OLD["lines"].items()}
     make(without(again, "loaded.0.1"))
     count("0.17.7: a load that is missing had failed", rows()[0] == ["r00", "r01", "r02"])
-    refused("0.17.7: what a load gave is cut", {**again, "loaded.0.1": again["loaded.0.1"][:-1]}, "loaded.0.1: this is no image")
+    refused("0.17.7: what a load gave is cut", {**again, "loaded.0.1": again["loaded.0.1"][:-1]}, "loaded.0.1: the image is cut short or damaged")
 
 
 # ---- Loads.
@@ -407,7 +408,7 @@ def cut_loads():
     cut = found["loaded.0.0"][:-1]
     refused("what a load gave is cut", {**found, "loaded.0.0": cut}, "loaded.0.0: differs from its checksum")
     refused("and it is cut to nothing", {**found, "loaded.0.0": b""}, "loaded.0.0: differs from its checksum")
-    refused("and has no checksum", without({**found, "loaded.0.0": cut}, "loaded.0.0.sha256"), "loaded.0.0: this is no image")
+    refused("and has no checksum", without({**found, "loaded.0.0": cut}, "loaded.0.0.sha256"), "loaded.0.0: the image is cut short or damaged")
     make(found)
     count("else all is as it was", rows()[0] == ["r0"])
 

@@ -620,11 +620,12 @@ def no_server(program, asked, number, at):
 
 # ---- The reader of replies.
 def reader_faults():
-    """What the strict reader lets through of the examples of docs/PROTOCOL.md: each as it stands is taken, and none that is cut, longer, told
-    by another opcode or in another order of replies."""
-    page = (TOP / "docs/PROTOCOL.md").read_text(encoding="utf-8")
-    for number, text in enumerate(re.findall(r"```frames\n(.*?)```", page, re.S), 1):
-        frames = [(line[0], bytes.fromhex(line[2:])) for line in text.splitlines()]
+    """What the strict reader lets through of the examples of docs/PROTOCOL.md and tests/frames/examples.txt: each as it stands is taken, and
+    none that is cut, longer, told by another opcode or in another order of replies."""
+    texts = re.findall(r"```frames\n(.*?)```", (TOP / "docs/PROTOCOL.md").read_text(encoding="utf-8"), re.S)
+    texts += re.split(r"^# ", (TOP / "tests/frames/examples.txt").read_text(encoding="utf-8"), flags=re.M)[1:]
+    for number, text in enumerate(texts, 1):
+        frames = [(line[0], bytes.fromhex(line[2:])) for line in text.splitlines() if line[:2] in ("> ", "< ")]
         sent, told = (b"".join(frame for which, frame in frames if which == side) for side in "><")
         replies = [frame for which, frame in frames if which == "<"]
         changed = [told[:-1], told + b"\0", told + replies[-1], b"".join(replies[:-1])]

@@ -244,7 +244,12 @@ printf 'TABIMG\000\000' >zeroth
 { cat one; printf '!'; } >longer
 : >none
 for pair in missing:io folder:io none:bad cut:bad longer:bad mixed:bad turned:bad served:bad 'third:version 3' 'ninth:version 9' 'zeroth:version 0' whole:bad; do
-    answers "load ${pair%%:*}" "load ${pair%%:*}\nscan t \\\\0\n" "fault load ${pair#*:}\nr f q \\\\e 5 v\nend\n" --image one
+    case $pair in
+    missing:*) why="fault: missing: the image can't be read: No such file or directory (os error 2)" ;;
+    folder:*) why="fault: folder: the image can't be read: Is a directory (os error 21)" ;;
+    *) why= ;;
+    esac
+    tells "load ${pair%%:*}" "load ${pair%%:*}\nscan t \\\\0\n" "fault load ${pair#*:}\nr f q \\\\e 5 v\nend\n" "$why" --image one
     printf 'scan t \\0\n' | "$program" script --image "${pair%%:*}" >out 2>err
     [ "${PIPESTATUS[1]},$(cat out),$(cat err)" = "1,,fault: load ${pair#*:}" ] || { [ "${PIPESTATUS[1]:-1}" = 1 ] && [ ! -s out ] && [ "$(wc -l <err)" = 1 ] && [ "$(cut -d ' ' -f 1 err)" = 'fault:' ]; }
     count "--image ${pair%%:*} ends with 1 and a line that says why" $?

@@ -178,8 +178,12 @@ mkdir y.image.sha256 && : >y.image
 faults "no file for a checksum" "fault: y.image: the image can't be read: its checksum: Is a directory (os error 21)" inspect y.image
 rmdir y.image.sha256
 printf 'TABIMG' >bad
-faults "a beginning" 'fault: bad: this is no image' inspect bad
-faults "a beginning, exported" 'fault: bad: this is no image' export --accumulo bad
+faults "a beginning" 'fault: bad: the image is cut short or damaged' inspect bad
+faults "a beginning, exported" 'fault: bad: the image is cut short or damaged' export --accumulo bad
+head -c -1 x.image >bad
+faults "all but the last byte" 'fault: bad: the image is cut short or damaged' inspect bad
+printf 'TABIM' >bad
+faults "less than a beginning" 'fault: bad: this is no image' inspect bad
 printf 'TABIMG\0\7' >new
 faults "an unknown version" 'fault: new: the image has the unknown version 7' export new
 mkdir none

@@ -58,8 +58,14 @@ start() { # WORD ..
     builds=$(grep -c build "$CALLS")
 }
 
-ran() { # PROGRAM   whether it ran, with its words and its status passed through, and nothing was said.
-    [ "$status" -eq 7 ] && [ "$(cat "$work/out")" = "$1 in $caller with one two words" ] && [ ! -s "$work/err" ]
+first="proved and built first, some 101 minutes from nothing"
+# Whether nothing was said, but where it was built that it is.
+is_quiet() {
+    if [ "${builds:-0}" -eq 0 ]; then [ ! -s "$work/err" ]; else [ "$(wc -l <"$work/err")" -eq 1 ] && grep -q "^note: .*$first" "$work/err"; fi
+}
+
+ran() { # PROGRAM   whether it ran, with its words and its status passed through
+    [ "$status" -eq 7 ] && [ "$(cat "$work/out")" = "$1 in $caller with one two words" ] && is_quiet
 }
 
 edit() {
@@ -70,6 +76,8 @@ edit() {
 start one 'two words'
 ran built && [ "$builds" -eq 1 ]
 count 'the first start builds' $?
+[ "$(cat "$work/err")" = "note: these sources aren't the release's, so they are $first" ]
+count 'and says at once what that takes' $?
 [ -z "$(ls -A "$caller")" ]
 count "nothing is left in the caller's folder" $?
 start one 'two words'
@@ -132,7 +140,7 @@ for _ in $(seq 400); do [ ! -s "$CALLS" ] || break; sleep 0.05; done
 (for _ in $(seq 400); do ! grep -q waiting "$work/err" || break; sleep 0.05; done; : >"$work/go") 2>/dev/null &
 start one 'two words'
 wait
-[ "$status" -eq 7 ] && [ "$builds" -eq 0 ] && [ "$(cat "$work/err")" = 'tabd: waiting for another build of this checkout' ] && grep -q 'with first$' "$work/first"
+[ "$status" -eq 7 ] && [ "$builds" -eq 0 ] && [ "$(tail -n +2 "$work/err")" = 'tabd: waiting for another build of this checkout' ] && grep -q 'with first$' "$work/first"
 count 'a second start says that it waits, and finds all built' $?
 
 # ---- With a release.
@@ -159,6 +167,70 @@ start one 'two words'
 ran released && [ "$builds" -eq 0 ] && [ -x "$HOME"/.cache/tabd/*/tabd ]
 count "a checkout that can't be written has it in the user's cache" $?
 rm "$here/crates/tabd/out"
+
+# ---- A checkout of root's, which others run and can't write.
+skipped=0
+skip() { # WHAT WHY
+    skipped=$((skipped + 1))
+    echo "skipped: $1 ($2)"
+}
+if [ "$(id -u)" -ne 0 ] || ! command -v setpriv >/dev/null; then
+    skip 'a checkout that others run' 'only root can have them run it'
+else
+    temporary=$work/temporary home=$work/home-of-one sum=$(sed -n 's/^program: //p' "$here/release/release.txt")
+    chmod 755 "$work" && chmod -R go+rX "$here" "$caller" "$bin" && mkdir -m 1777 "$temporary" && mkdir -m 700 "$home" && chown 65533 "$home"
+    builds=0
+    run_as() { # USER VARIABLE=VALUE ..   the launcher as this user, without a kit
+        (cd "$caller" && exec setpriv --reuid="$1" --regid="$1" --clear-groups env -u HOME PATH=/usr/bin:/bin TMPDIR="$temporary" "${@:2}" "$here/tabd" one 'two words') \
+            >"$work/out" 2>"$work/err" </dev/null
+        status=$?
+    }
+    is_kept() { # USER FOLDER   whether it is unpacked there, where nobody but the user may look
+        [ "$(stat -c '%u %a' "$2/tabd" "$2/tabd/$sum")" = "$1 700"$'\n'"$1 700" ] && [ -x "$2/tabd/$sum/tabd" ] && [ ! -e "$here/crates/tabd/out" ]
+    }
+    run_as 65533 HOME="$home"
+    ran released && is_kept 65533 "$home/.cache"
+    count "who can't write the checkout has the release in a folder of their own" $?
+    echo '# more' >>"$home/.cache/tabd/$sum/tabd"
+    run_as 65533 HOME="$home"
+    ran released && [ "$(sha256sum <"$home/.cache/tabd/$sum/tabd")" = "$sum  -" ]
+    count 'where it is compared each time' $?
+    run_as 65533 XDG_CACHE_HOME="$home/other caches"
+    ran released && is_kept 65533 "$home/other caches"
+    count 'or where XDG_CACHE_HOME says' $?
+    run_as 65533
+    ran released && is_kept 65533 "$temporary/tabd-65533"
+    count 'without a HOME it is in one beside the temporary files' $?
+    run_as 65534 HOME="$home"
+    ran released && is_kept 65534 "$temporary/tabd-65534"
+    count "and with a HOME of another user's" $?
+    # what another user made first could be changed by them
+    for made in 'mkdir -m 777' 'ln -s .'; do
+        rm -rf "$temporary"/tabd-65534
+        # shellcheck disable=SC2086
+        setpriv --reuid=65533 --regid=65533 --clear-groups $made "$temporary/tabd-65534"
+        run_as 65534
+        [ "$status" -eq 1 ] && [ "$(wc -l <"$work/err")" -eq 1 ] && [ ! -s "$work/out" ] &&
+            grep -q "^fault: the release can't be unpacked: $here/crates/tabd/out can't be written; $temporary/tabd-65534/tabd/$sum isn't this user's alone$" "$work/err"
+        count "nothing is taken from a folder that another user made ($made)" $?
+    done
+    run_as 65534 HOME="$home" TMPDIR=/proc/1
+    [ "$status" -eq 1 ] && [ "$(wc -l <"$work/err")" -eq 1 ] &&
+        grep -q "^fault: the release can't be unpacked: $here/crates/tabd/out can't be written; .*$home.*: Permission denied; .*/proc/1/tabd-65534.*: " "$work/err"
+    count 'where there is no folder for it, each is named, and why' $?
+    run_as 65534 HOME="$home" TMPDIR=/proc/1 PATH="$bin:/usr/bin:/bin"
+    [ "$status" -eq 1 ] && [ "$(wc -l <"$work/err")" -eq 1 ] && grep -q "^fault: the release can't be unpacked: " "$work/err"
+    count 'also where there is a kit' $?
+    if unshare -m true 2>/dev/null; then
+        HOME=$home TMPDIR=$temporary PATH=/usr/bin:/bin unshare -m bash -c 'mount --bind -- "$1" "$1" && mount -o remount,bind,ro -- "$1" && cd "$2" && "$1/tabd" one "two words"' - "$here" "$caller" >"$work/out" 2>"$work/err" </dev/null
+        status=$?
+        ran released && is_kept 0 "$temporary/tabd-0"
+        count 'nor does root put anything into a checkout that is mounted to be read' $?
+    else
+        skip 'a checkout that is mounted to be read' "it can't be mounted"
+    fi
+fi
+
 gzip -9nc "$work/built" >"$here/release/tabd.gz"
 rm -rf "$HOME"
 start one
@@ -168,6 +240,9 @@ release other
 start one 'two words'
 ran built && [ "$builds" -eq 1 ]
 count 'a release of other sources leads to a build' $?
+[ "$(cat "$work/err")" = "note: these sources aren't the release's, so they are $first; \"\$($here/release/program --any)\" in place of ./tabd runs the release" ] &&
+    rm -rf "$here/crates/tabd/out" && runs=$(sed 's/.*; \(.*\) in place of .*/\1/' "$work/err") && [ "$(eval "$runs" one)" = "released in $PWD with one" ]
+count 'and it says how the release is run all the same' $?
 rm -rf "$here/crates/tabd/out"
 for words in --help --version nonsense serve; do
     start $words
@@ -216,11 +291,6 @@ count 'an older processor' $?
 rm -rf "$lacking" "$here/crates/tabd/out"
 
 # ---- At a terminal lines are asked for, with rlwrap where there is one, and Ctrl-C drops the line that is typed.
-skipped=0
-skip() { # WHAT WHY
-    skipped=$((skipped + 1))
-    echo "skipped: $1 ($2)"
-}
 if ! command -v python3 >/dev/null; then
     skip 'lines that are typed' 'there is no python3'
 else
@@ -242,11 +312,16 @@ else
         ignored=$(sed -n 's/^SigIgn:[[:space:]]*//p' "$work/out")
         grep -q '^built with script --prompt' "$work/out" && [ $((0x${ignored:-0} & 2)) -ne 0 ]
     }
+    edits='note: install rlwrap to edit and recall lines'
     shows "$bin:$bare" 80 -- script && ignores
     count 'at a terminal there are prompts, and Ctrl-C is ignored' $?
-    shows "$wrap:$bin:$bare" 80 -- script && ignores && grep -q '^edited: -C tabd' "$work/out"
+    shows "$bin:$bare" 80 -- script && [ "$(grep -cxF "$edits" "$work/out")" -eq 1 ]
+    count 'where there is no rlwrap, it is said once what that would do' $?
+    shows "$bin:$bare" 80 -- script --help && ! grep -qF "$edits" "$work/out"
+    count 'but not to who asks for help' $?
+    shows "$wrap:$bin:$bare" 80 -- script && ignores && grep -q '^edited: -C tabd' "$work/out" && ! grep -qF "$edits" "$work/out"
     count 'rlwrap stands between them' $?
-    shows "$wrap:$bin:$bare" 0 -- script && ignores && ! grep -q '^edited:' "$work/out"
+    shows "$wrap:$bin:$bare" 0 -- script && ignores && ! grep -q -e '^edited:' -e "$edits" "$work/out"
     count "but at a terminal without a width, which it doesn't take" $?
     shows "$bin:$bare" 80 -- inspect -- -odd
     grep -q '^built with inspect --progress -- -odd' "$work/out"
@@ -258,6 +333,9 @@ else
         shows "$bin:$bare" "$columns" "${typed[@]}" -- script && grep -qxF 'root> insert t r^C' "$work/out"
         count "Ctrl-C drops the line, and a prompt comes (width $columns)" $?
     done
+    (ulimit -c 0 && shows "$bin:$bare" 80 'root>' 'createtable t\n' 'ok\nroot>' '\x1c' -- script)
+    [ $? -eq 131 ] && [ "$(tail -n 1 "$work/out")" = 'root> ^\' ]
+    count "Ctrl-\ ends the program, and nothing is said of the launcher's lines" $?
     printf 'before=$(stty -g)\n"$@"\necho "status $?"\n[ "$before" = "$(stty -g)" ] && echo same\n' >"$work/around"
     (cd "$caller" && PATH=$bin:$bare python3 -B "$top/tests/terminal.py" 80 'root>' 'bogus\n' 'root>' 'quit\n' -- bash "$work/around" "$here/tabd" script --strict) >"$work/out" 2>&1 </dev/null
     [ "$(tail -n 2 "$work/out")" = $'status 3\nsame' ]

@@ -1,6 +1,6 @@
 """Sees how the first lines of the files of specs/ stand to what they import and to docs/DEFINITIONS.md: what is to be believed leads to
 nothing that is for proofs, DEFINITIONS says how much each aim asks to believe, README quotes two of these counts, and part IV of DEFINITIONS
-lists nothing that is to be believed. And no comment of a source begins with 'The same'.
+lists nothing that is to be believed. And no comment of a source begins with 'The same', and all documents together stay below a limit.
 
 Prints what is wrong, and exits with 1 where something is."""
 import functools
@@ -26,14 +26,17 @@ AIMS = {
 QUOTED = ["the same of a server's histories", "a served connection"]
 # Files for proofs to which some lead that are to be believed: their first lines are to be changed, or the words moved that are named.
 LED_TO = set("""
-tab_book/HandedOut tab_core/Bounded tab_core/Holding tab_core/Rotating tab_event_record/Acts tab_export/Places tab_help/Explaining
-tab_history/Chains tab_history/Rooted tab_image/Conditions tab_image/Loading tab_image/Reading tab_image/Spelling tab_image/Streams
+tab_book/HandedOut tab_codec/Reading tab_core/Bounded tab_core/Holding tab_core/Rotating tab_export/Places tab_help/Explaining
+tab_history/Chains tab_history/Rooted tab_image/Conditions tab_image/Loading tab_image/Reading tab_image/Streams
 tab_iter/Bags tab_iter/Lists tab_journal/Crashes tab_journal/Reading tab_journal/Spelling tab_journal/Writing tab_key/Encoding
 tab_key/RecordSpans tab_key/Same tab_lines/Fields tab_lines/Gives tab_lines/Lines tab_lines/Updates tab_lines/Words tab_loading/Tables
-tab_parts/Reading tab_saving/Typed tab_serve/Turns tab_shell/Ahead tab_shell/Readings tab_store/Keeping tab_store/Limits
+tab_saving/Typed tab_serve/Turns tab_shell/Ahead tab_shell/Readings tab_store/Keeping tab_store/Limits
 tab_store/Rightness tab_tablet/Spared tab_tablets/Places tab_tablets/Restored tab_text/Gives tab_text/Reading tab_wire/Asking
 tab_wire/FrameReading tab_wire/Heard tab_wire/Requests tab_wire/Taking tab_wire/TalkLaws tab_work/SharedAnswers
 """.split())
+# All documents together, and how many bytes they may have at most: each fact stands once.
+DOCUMENTS = "README.md CHANGELOG.md CONTRIBUTING.md docs/*.md clients/*/README.md bench/README.md examples/*.md packaging/*.md".split()
+MOST_BYTES = 180_000
 # Files whose first line says neither.
 UNSORTED = {"tab_session/LowEnds"}
 
@@ -133,9 +136,15 @@ def vague():
     return [f"{os.path.relpath(path, TOP)}:{number}: a comment begins with 'The same'" for path, number, line in lines if begins.match(line)]
 
 
+def bulky():
+    """Returns what is wrong where all documents together have too many bytes."""
+    found = sum(os.path.getsize(path) for words in DOCUMENTS for path in glob.glob(f"{TOP}/{words}"))
+    return [f"all documents together have {found:,} bytes, and may have {MOST_BYTES:,}"] if found >= MOST_BYTES else []
+
+
 def main():
     definitions = read(f"{TOP}/docs/DEFINITIONS.md")
-    wrong = strays() + miscounts(definitions) + misquoted(read(f"{TOP}/README.md")) + misplaced(definitions) + vague()
+    wrong = strays() + miscounts(definitions) + misquoted(read(f"{TOP}/README.md")) + misplaced(definitions) + vague() + bulky()
     for it in wrong:
         print(it)
     return 1 if wrong else 0

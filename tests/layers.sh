@@ -2,7 +2,8 @@
 # Sees that crates.txt lists for each crate what its files name, and nothing else; that each file says in its first line
 # what it is, those of specs/ whether they are to be believed or only serve proofs, and that what is to be believed leads to nothing that only
 # serves proofs; that docs/DEFINITIONS.md says how much the promise and each other aim ask to believe (layers.py); that the table of files in
-# each crate's root names each of its modules; and that each wrong body can be applied. A module `tests` aside.
+# each crate's root names each of its modules; that each wrong body can be applied; and that all documents together stay below a limit (layers.py).
+# A module `tests` aside.
 # Usage: tests/layers.sh   (from anywhere; builds nothing)
 set -u
 top=$(cd "$(dirname -- "${BASH_SOURCE[0]}")/.." && pwd)

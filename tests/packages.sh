@@ -57,14 +57,14 @@ locks=(DynamicUser=yes NoNewPrivileges=yes CapabilityBoundingSet= ProtectSystem=
     ProtectKernelTunables=yes ProtectProc=invisible ProcSubset=pid RestrictNamespaces=yes RestrictRealtime=yes RestrictSUIDSGID=yes
     LockPersonality=yes MemoryDenyWriteExecute=yes SystemCallArchitectures=native SystemCallFilter=@system-service
     'SystemCallFilter=~@privileged @resources' SystemCallErrorNumber=EPERM UMask=0077 StateDirectoryMode=0700 LimitCORE=0 IPAddressDeny=any
-    Restart=on-failure)
+    Restart=on-failure RestartSec=5 StartLimitIntervalSec=0 RestartPreventExitStatus=2)
 for name in tabd tabd-socket; do
     has $name "${locks[@]}"
-    count "the unit $name is locked, leaves no core, and starts again behind a failure alone" $?
-    has $name Type=exec "EnvironmentFile=-/etc/default/$name" 'Documentation=man:tabd(1)' WantedBy=multi-user.target
+    count "the unit $name is locked, leaves no core, and starts again behind a failure alone, for as long as it takes" $?
+    has $name Type=exec TimeoutStartSec=infinity "EnvironmentFile=-$work/there/etc/default/$name" 'Documentation=man:tabd(1)' WantedBy=multi-user.target
     count "the unit $name begins without a file of options, and with the machine where it is enabled" $?
 done
-has tabd RestrictAddressFamilies=AF_INET IPAddressAllow=localhost StateDirectory=tabd 'Environment="TABD_OPTIONS=--port 9997 --store /var/lib/tabd"'
+has tabd RestrictAddressFamilies=AF_INET IPAddressAllow=localhost StateDirectory=tabd 'Environment=TABD_PORT=9997 TABD_OPTIONS='
 count 'the one of a port reaches this machine alone, and keeps what it answers' $?
 has tabd-socket RestrictAddressFamilies=AF_UNIX PrivateNetwork=yes RuntimeDirectoryMode=0710 Group=tabd-users StateDirectory=tabd-socket &&
     grep -q -- '--socket-mode 660 ' there/lib/systemd/system/tabd-socket.service
@@ -87,7 +87,19 @@ count 'and 2' $?
 echo bogus | "$TABD" script --strict >out 2>err
 [ $? -eq 3 ] && says 3 'strict.*stopped'
 count 'and 3' $?
-for command in script serve shell inspect export; do
+for signal in HUP USR1 USR2 TERM; do
+    rm -f signalled && : >out
+    "$TABD" serve --socket signalled >out 2>err </dev/null &
+    server=$!
+    for _ in $(seq 400); do ! grep -q listening out || break; sleep 0.05; done
+    kill -s "$signal" "$server"
+    wait "$server" 2>/dev/null
+    [ $? -eq $((128 + $(kill -l "$signal"))) ] && says 128 "\<$signal\>"
+    count "and what it is where $signal ended it" $?
+done
+[ "$(sed 's/\\-/-/g; s/^\\&//' page | grep -o "[^ ]*/docs/[A-Z]*\.md" | sort -u)" = "$work/there/share/doc/tabd/docs/SCRIPT.md" ] && [ -s there/share/doc/tabd/docs/SCRIPT.md ]
+count 'it names the document that says more where that is' $?
+for command in script serve shell inspect export import; do
     sed -n "/^\.SH \"TABD ${command^^}\"\$/,/^\.SH /p" page >part
     : >out
     "$TABD" $command --help | sed -nE 's/^ +(-., )?--([a-z-]+)[^ ]*( <[^>]*>)?  +([^ ]+ ?[^ ]*).*/\2 \4/p' | while read -r option what; do
@@ -134,7 +146,7 @@ if ! lacks dpkg-deb 'the Debian package'; then
     } | grep -o 'docs/[A-Z]*\.md' | sort -u >named
     : >out
     while read -r name; do [ -s "whole/usr/share/doc/tabd/$name" ] || echo "$name is named, and isn't there"; done <named >out
-    [ -s named ] && [ ! -s out ]
+    [ -s named ] && [ ! -s out ] && gzip -dc whole/usr/share/man/man1/tabd.1.gz | grep -q '/usr/share/doc/tabd/docs/SCRIPT.md'
     count 'the documents that it names are there' $?
     # what systemd is told, with a stand-in for it
     mkdir bin systemd && printf '#!/bin/sh\necho "$*"\n' >bin/systemctl && chmod +x bin/systemctl

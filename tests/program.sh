@@ -149,7 +149,7 @@ count 'a shell suggests lines of a shell alone' $?
 grep -q '^  N  ' out && ! grep -qE '^  (MOMENT|KIND|JOB|LIMIT|FILE) ' out && "$program" script --help | grep -q '^  MOMENT '
 count "and its help has no words of a script's own lines" $?
 printf 'help\nhelp save\n' | "$program" shell --socket s --user root --prompt >out 2>err
-[ "$(head -n 1 out)" = 'tabd: lines for a server. What they write is gone when it ends, unless it keeps it in a folder.' ] && [ "$(tail -n 2 out | head -n 1)" = 'root>   there is no such line: help lists them' ]
+[ "$(head -n 1 out)" = 'tabd: lines for a server. What they write is gone when it ends, unless it keeps it in a folder.' ] && [ "$(tail -n 2 out | head -n 1)" = "root>   this line is a script's alone: help lists a shell's" ]
 count "and its prompt doesn't say what it can't know" $?
 printf 'status t\nhelp\n' | "$program" shell --socket s --user root --prompt 2>err >/dev/full
 fails "a shell's prompt to a full device" $? "$full"
@@ -381,11 +381,15 @@ watched() { # NAME INPUT STATUS OUTPUT ERRORS WORD ..
 lines='# made\ncreatetable t time=any\ninsert t refused 6 Cell \\e v 5\nsplits u\n\nbogus\nload no-such-file\naddsplit t ok\nsplits t\nscan t \\0'
 cell='refused 6 Cell \\e 5 v'
 watched 'a strict run stops at the first refusal' "$lines" 3 'ok\nok\nrefused 2 NoTable u\n' 'line 4: refused 2 NoTable u\n' --strict
-watched 'a strict run stops at a line fault' 'createtable t\nbogus\ndroptable t\n' 3 'ok\nline fault\n' 'line 2: line fault\n' --strict
-watched 'a strict run stops at the fault of a file' 'createtable t\nload no-such-file\ndroptable t\n' 3 'ok\nfault load io\n' 'line 2: fault load io\n' --strict
+watched 'a strict run stops at a line fault, and says why it is one' 'createtable t\ncreattable t\ndroptable t\n' 3 'ok\nline fault\n' \
+    'line 2: word 1, "creattable": expected a command: did you mean createtable?\nline 2: line fault\n' --strict
+unread="fault: no-such-file: the image can't be read: $none\n"
+watched 'a strict run stops at the fault of a file' 'createtable t\nload no-such-file\ndroptable t\n' 3 'ok\nfault load io\n' "${unread}line 2: fault load io\n" --strict
+watched 'a load that is not read says why' 'load no-such-file\nload .\n' 0 'fault load io\nfault load io\n' \
+    "${unread}fault: .: the image can't be read: Is a directory (os error 21)\n"
 watched 'a strict run in which nothing is refused' "createtable t time=any\ninsert t refused 6 Cell \\\\e v 5\nscan t \\\\0" 0 "ok\nok\n$cell\nend\n" '' --strict
 watched 'a strict run says why a line is a fault' 'as\n' 3 'line fault\n' "line 1: word 2 is missing: expected U (a user's $name)\nline 1: line fault\n" --strict --explain
-watched 'a quiet run' "$lines" 0 "refused 2 NoTable u\nline fault\nfault load io\nok\nend\n$cell\nend\n" '3 ok, 1 refused, 2 faults\n' --quiet
+watched 'a quiet run' "$lines" 0 "refused 2 NoTable u\nline fault\nfault load io\nok\nend\n$cell\nend\n" "${unread}3 ok, 1 refused, 2 faults\n" --quiet
 watched 'a quiet and strict run' "$lines" 3 'refused 2 NoTable u\n' '2 ok, 1 refused, 0 faults\nline 4: refused 2 NoTable u\n' --quiet --strict
 watched 'a quiet run of one of each' 'createtable t\nscan u \\0\nbogus\n' 0 'refused 2 NoTable u\nline fault\n' '1 ok, 1 refused, 1 fault\n' --quiet
 watched 'a quiet run of no line' '' 0 '' '0 ok, 0 refused, 0 faults\n' --quiet
@@ -473,6 +477,32 @@ told = seen.decode().replace("\r", "")
 sys.exit(not all(f"{row}\n" in told for row in rows) or "\x1b" in told.split("insert t r f q", 1)[1])
 P
     count 'at a terminal words are shown as they would be typed' $?
+    # a scan of many blocks: of small cells, and of cells of which a block holds few
+    for shape in '5000 1' '40 30000'; do
+        timeout 60 python3 - "$program" $shape <<'P'
+import os, pty, re, sys, tempfile
+cells, spaces = int(sys.argv[2]), int(sys.argv[3])
+value = "a" + spaces * "\\x20" + "b"
+lines = ["createtable t time=any", *(f"insert t r{at:06} f q \\e {value} 5" for at in range(cells)), "scan t \\0"]
+with tempfile.TemporaryDirectory() as room:
+    os.chdir(room)
+    with open("lines", "w") as file:
+        file.write("".join(line + "\n" for line in lines))
+    child, terminal = pty.fork()
+    if child == 0:
+        os.dup2(os.open("lines", os.O_RDONLY), 0)
+        os.execv(sys.argv[1], ["tabd", "script", "--prompt"])
+    seen = b""
+    try:
+        while piece := os.read(terminal, 65536):
+            seen += piece
+    except OSError:
+        pass
+found = re.findall(r'^(?:root> )?(r[0-9]{6})  f  q  \\e  5  (.*)$', seen.decode().replace("\r", ""), re.M)
+sys.exit(found != [(f"r{at:06}", '"a' + spaces * " " + 'b"') for at in range(cells)])
+P
+        count "at a terminal a long scan is shown alike throughout ($shape)" $?
+    done
 fi
 
 echo "$passed passed, $failed failed$([ "$skipped" -eq 0 ] || echo ", $skipped skipped")"

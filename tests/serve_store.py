@@ -633,7 +633,7 @@ def reads(server, seen):
     """Scans again and again, and keeps what it saw last."""
     while True:
         try:
-            done = subprocess.run([PROGRAM, "shell", "--port", str(server.port), "--user", "root"], input="scan t \\0\n", capture_output=True, text=True, timeout=60)
+            done = subprocess.run([PROGRAM, "shell", "--port", str(server.port), "--user", "root", "--timeout", "1"], input="scan t \\0\n", capture_output=True, text=True, timeout=60)
         except subprocess.TimeoutExpired:
             return
         if done.returncode != 0 or not done.stdout.endswith("end\n"):
@@ -676,21 +676,40 @@ def beneath_writers():
     count("there were rounds", rounds > 0)
 
 
-def readme():
-    """README's server that is killed, word for word."""
-    with open("%s/../README.md" % HERE, encoding="utf-8") as file:
-        section = file.read().split("## A server that is killed\n")[1].split("\n## ")[0]
-    blocks = [part.split("\n", 1) for part in section.split("```")[1::2]]
-    shown = [text for kind, text in blocks if kind == ""]
-    begin, write_some, again, read = [text for kind, text in blocks if kind == "sh"]
-    port = str(free_port())
-    listens = "until (exec 3<>/dev/tcp/127.0.0.1/%s) 2>/dev/null; do sleep 0.05; done\n" % port
-    lines = begin + listens + write_some + "wait $!\n" + again + listens + read + "kill -9 $!\n"
-    lines = lines.replace("./tabd", PROGRAM).replace("9997", port)
-    run = subprocess.run(["bash"], input=lines, capture_output=True, text=True, timeout=60)
-    count("README's server that is killed prints what it says", run.stdout == "listening %s\nok\nok\nok\nlistening %s\n" % (port, port) + shown[0], run.stdout)
-    told = "ward: 3 entries are replayed"
-    count("and says what it says", "`%s`" % told in section and "%s\n" % told in run.stderr, run.stderr)
+def copies_beneath_writers():
+    """Copies that are made beneath writers while images take the place of others: one that is taken up has what was answered before it began,
+    of each writer a beginning of what it asked; others are refused by `cp` or by `inspect`."""
+    shutil.rmtree(STORE, ignore_errors=True)
+    kept = []
+    with Server("--workers", "5", "--checkpoint", "30000") as server:
+        with server.connect() as stream:
+            stream.sendall(MAKE)
+            read_frame(stream)
+        writers = [Writer(server, letter, letter) for letter in "abcd"]
+        for writer in writers:
+            writer.start()
+        for number in range(15):
+            copy = "copy%d" % number
+            answered = [writer.answered for writer in writers]
+            fine = subprocess.run(["cp", "-a", STORE + "/.", copy], stderr=subprocess.DEVNULL).returncode == 0
+            done = subprocess.run([PROGRAM, "inspect", copy], capture_output=True, text=True, timeout=60)
+            if done.returncode != 0:
+                count("copy %d is refused by a fault" % number, done.stderr.startswith("fault: ") and not done.stdout, done.stderr)
+            elif fine:
+                kept.append((copy, answered))
+            time.sleep(number / 500)
+        server.kill()
+        for writer in writers:
+            writer.join()
+    count("some copies are taken up", len(kept) > 2, len(kept))
+    for copy, answered in kept[-4:]:
+        shutil.rmtree(STORE)
+        os.rename(copy, STORE)
+        found, told = rows_of_server()
+        for writer, least in zip(writers, answered):
+            mine = [row for row in found or () if row[1] == writer.letter]
+            fine = mine == ["w%s%06d" % (writer.letter, each) for each in range(len(mine))] and least <= len(mine) <= writer.asked
+            count("%s has what was answered before it began" % copy, fine, (writer.letter, least, len(mine), told))
 
 
 def build():
@@ -698,4 +717,4 @@ def build():
         subprocess.run([os.environ.get("CC", "cc"), "-shared", "-fPIC", "-O1", "-o", name + ".so", "%s/%s.c" % (HERE, name), "-ldl"], check=True)
 
 
-run_parts(build, readme, folders, both_formats, intervals, intervals_beside_a_history, short_batches, images_come_later, full_disk, file_limit_is_told, reads_wait_for_nothing, history_says_yes, turned, followed, kills, short_writes, checkpoints, beneath_writers)
+run_parts(build, folders, both_formats, intervals, intervals_beside_a_history, short_batches, images_come_later, full_disk, file_limit_is_told, reads_wait_for_nothing, history_says_yes, turned, followed, kills, short_writes, checkpoints, copies_beneath_writers, beneath_writers)

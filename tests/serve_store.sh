@@ -7,6 +7,6 @@ set -u
 top=$(cd "$(dirname -- "${BASH_SOURCE[0]}")/.." && pwd)
 . "$top/tests/needs" python3 "${CC:-cc}"
 program=${TABD:-$("$top/release/program")} || exit 1
-export PARTS=${PARTS:-readme folders both_formats intervals intervals_beside_a_history short_batches images_come_later full_disk
-    file_limit_is_told reads_wait_for_nothing history_says_yes turned followed beneath_writers}
+export PARTS=${PARTS:-folders both_formats intervals intervals_beside_a_history short_batches images_come_later full_disk
+    file_limit_is_told reads_wait_for_nothing history_says_yes turned followed copies_beneath_writers beneath_writers}
 exec timeout 900 python3 -B "$top/tests/serve_store.py" "$program" "$@"

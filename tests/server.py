@@ -55,6 +55,8 @@ def watched_shells():
     with Server() as server:
         for name, lines, words, wanted in (
             ("strict", b"createtable t\n\nsplits u\ndroptable t\n", ["--strict"], (3, b"ok\nrefused 2 NoTable u\n", b"line 3: refused 2 NoTable u\n")),
+            ("strict, at a line fault", b"at 5\ndroptable t\n", ["--strict"], (3, b"line fault\n", b'line 1: word 1, "at": expected a line of a shell; '
+             b"this one is a script's alone\nline 1: line fault\n")),
             ("quiet", b"addsplit t ok\nsplits t\nsplits u\n", ["--quiet"], (0, b"ok\nend\nrefused 2 NoTable u\n", b"1 ok, 1 refused, 0 faults\n")),
             ("explaining", b"at 5\nclose\n", ["--explain"], (0, b"line fault\nline fault\n", b'line 1: word 1, "at": expected a line of a shell; '
              b"this one is a script's alone\nline 2: word 2 is missing: expected SESSION (the number that an open gave: a whole number of 32 bits without a sign, as 0)\n")),
@@ -473,7 +475,7 @@ def shells():
             count("a full output of a shell", ran.returncode == 1 and ran.stderr ==
                   b"fault: the output can't be written: No space left on device (os error 28)\n", ran)
         one_by_one(server)
-    ran = run("shell", "--port", str(server.port), "--user", "root", stdin=b"bogus\n")
+    ran = run("shell", "--port", str(server.port), "--user", "root", "--timeout", "1", stdin=b"bogus\n")
     count("no server", ran.returncode == 1 and ran.stdout == b"" and ran.stderr ==
           b"fault: no server is reached on port %d: Connection refused (os error 111)\n" % server.port, ran)
     goes_away()
@@ -622,5 +624,27 @@ def goes_away():
                   (process.returncode, out, err))
 
 
+def servers_that_come_later():
+    """A shell waits for a server that isn't there yet, at a port, at a socket file, and at one that is left there, but no longer than it is told to."""
+    port = str(free_port())
+    with socket.socket(socket.AF_UNIX) as left:
+        left.bind("left")
+    for place in ("--port", port), ("--socket", "later"), ("--socket", "left"):
+        shell = subprocess.Popen([PROGRAM, "shell", *place, "--user", "root", "--timeout", "40"], stdin=subprocess.PIPE, stdout=subprocess.PIPE, stderr=subprocess.PIPE)
+        time.sleep(0.5)
+        server = subprocess.Popen([PROGRAM, "serve", *place, "--accept", "1"], stdin=subprocess.DEVNULL, stdout=subprocess.PIPE, stderr=subprocess.PIPE)
+        out, err = shell.communicate(b"createtable t\n", timeout=PATIENCE)
+        count("a server that comes later, at %s" % place[1], (shell.returncode, out, err) == (0, b"ok\n", b""), (shell.returncode, out, err))
+        server.kill()
+        server.communicate()
+        began = time.monotonic()
+        ran = run("shell", *place, "--user", "root", "--timeout", "1")
+        waited = time.monotonic() - began
+        count("and one that doesn't come", ran.returncode == 1 and b"no server is reached" in ran.stderr and 0.9 < waited < PATIENCE, (ran, waited))
+    began = time.monotonic()
+    ran = run("shell", "--socket", "/dev/null/none", "--user", "root", "--timeout", "40")
+    count("what can't be one isn't waited for", ran.returncode == 1 and time.monotonic() - began < 30, ran)
+
+
 run_parts(refused_command_lines, statuses, watched_shells, this_machine_alone, frames, bytes_behind_the_end, lingering_ends, full_servers, over_both, moments, side_by_side, stuck_peers, own_write_is_read,
-          compacted_beside, shell_over_loopback, shells, each_reply, scans_close_sessions, goes_away)
+          compacted_beside, shell_over_loopback, shells, each_reply, scans_close_sessions, goes_away, servers_that_come_later)

@@ -298,9 +298,9 @@ def shells():
         ran = run("shell", "--socket", "shell", "--user", "root", stdin=lines)
         count("a shell is answered", ran.returncode == 0 and ran.stdout.split(b"\n")[:4] == [b"ok", b"ok", *ran.stdout.split(b"\n")[2:3], b"end"] and ran.stderr == b"", ran)
         server.kill()
-    ran = run("shell", "--socket", "shell", "--user", "root")
+    ran = run("shell", "--socket", "shell", "--user", "root", "--timeout", "1")
     count("a dead server", (ran.returncode, ran.stderr) == (1, b"fault: shell: no server is reached: Connection refused (os error 111)\n"), ran)
-    ran = run("shell", "--socket", "nothing", "--user", "root")
+    ran = run("shell", "--socket", "nothing", "--user", "root", "--timeout", "1")
     count("no file", (ran.returncode, ran.stderr) == (1, b"fault: nothing: no server is reached: No such file or directory (os error 2)\n"), ran)
     with socket.socket(socket.AF_UNIX) as silent:
         silent.bind("silent")

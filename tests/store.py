@@ -136,6 +136,30 @@ def short_writes():
         at += 1
 
 
+def watched():
+    """A strict run keeps no line behind the one at which it stops, and of a quiet one what was counted is kept, whichever call fails."""
+    lines = ["createtable t\n", "setauths root A\n"] + [f"insert t {row} f q A 1\n" for row in asked]
+    for words in ["--strict"], ["--strict", "--quiet"]:
+        for how in "before", "fails":
+            at, met = 1, True
+            while met:
+                shutil.rmtree(store, ignore_errors=True)
+                out, status, _ = run("".join([*lines[:7], "scan u \\0\n", *lines[7:]]), *words, env=environment(at, how))
+                met, found = was_met(), rows()[0]
+                count(f"{words}, {how} {at}: no more is kept than was done", found == asked[:len(found)] and len(found) <= 5)
+                count(f"{words}, {how} {at}: what was answered is kept", "refused" not in out or len(found) == 5)
+                at += 1
+            count(f"{words}: it stops", status == 3 and len(found) == 5)
+    at, met = 1, True
+    while met:
+        shutil.rmtree(store, ignore_errors=True)
+        _, status, told = run("".join(lines), "--quiet", env=environment(at, "fails"))
+        met, found = was_met(), rows()[0]
+        count(f"quiet, fails {at}: what was counted is kept", f"{len(lines)} ok" not in told or found == asked)
+        at += 1
+    count("quiet: all is counted", status == 0 and f"{len(lines)} ok" in told)
+
+
 def starts(how, at, answered):
     again = 1
     while True:
@@ -228,7 +252,7 @@ def plain():
     os.remove(f"{saved_image}.sha256")
     os.truncate(saved_image, 9)
     out, status, told = run("")
-    count("a bad image is told by its name", status == 1 and told == f"fault: {store}: {os.path.basename(saved_image)}: this is no image\n")
+    count("a bad image is told by its name", status == 1 and told == f"fault: {store}: {os.path.basename(saved_image)}: the image is cut short or damaged\n")
     put_back("good")
     first = subprocess.Popen([program, "script", "--store", store], stdin=subprocess.PIPE, stdout=subprocess.PIPE, text=True)
     first.stdin.write("insert t r01 f q A 1\n")
@@ -263,6 +287,7 @@ try:
     subprocess.run([os.environ.get("CC", "cc"), "-shared", "-fPIC", "-O1", "-o", f"{work}/killing.so", f"{here}/killing.c", "-ldl"], check=True)
     plain()
     kills()
+    watched()
     short_writes()
     turned()
 finally:

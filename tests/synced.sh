@@ -1,5 +1,6 @@
 #!/usr/bin/env bash
-# What a save asks of the disk, and in which order: the new file and its checksum are synced whole before they get
+# What a save and a script with --store ask of the disk, and in which order. Lines that come at once are synced together, however their run
+# is watched. Of a save the new file and its checksum are synced whole before they get
 # their names, and the folder afterwards. Where
 # the disk can't sync it, the save fails, and the old file stands.
 # Usage: tests/synced.sh   (from anywhere; wants a C compiler; TABD names another program)
@@ -81,6 +82,44 @@ if cmp -s "$work/images/one" "$work/before" && [ -z "$(find "$work" -name '*.par
     failed=$((failed + 1))
     echo 'FAILED: the old file stands, and nothing is left beside it'
 fi
+
+# ---- The journal of a script.
+set +e
+count() { # NAME STATUS
+    if [ "$2" -eq 0 ]; then passed=$((passed + 1)); else
+        failed=$((failed + 1))
+        echo "FAILED: $1"
+    fi
+}
+{ echo 'createtable t' && seq 500 | sed 's/.*/insert t r& f q \\e v/'; } >"$work/lines"
+keeps() { # WORD ..: answers the lines on standard input, and keeps them
+    rm -rf "$work/store" "$work/notes"
+    env NOTES="$work/notes" LD_PRELOAD="$work/noting.so" "$program" script --store "$work/store" "$@" >"$work/out" 2>"$work/err"
+}
+keeps <"$work/lines"
+plain=$(grep -c '^sync journal' "$work/notes")
+for words in --explain --quiet --strict '--quiet --strict'; do
+    # shellcheck disable=SC2086
+    keeps $words <"$work/lines" && [ "$(grep -c '^sync journal' "$work/notes")" -eq "$plain" ]
+    count "lines that come at once are synced together: $words" $?
+done
+# of a quiet run, which says nothing, too, once more lines are awaited
+mkfifo "$work/lines.fifo"
+keeps --quiet <"$work/lines.fifo" &
+running=$!
+exec 9>"$work/lines.fifo"
+cat "$work/lines" >&9
+synced=1
+for _ in $(seq 300); do
+    last=$(grep '^sync journal.0 ' "$work/notes" 2>/dev/null | tail -n 1)
+    [ -n "$last" ] && [ "${last##* }" = "$(stat -c %s "$work/store/journal.0" 2>/dev/null)" ] && [ "${last##* }" -gt 10000 ] && synced=0 && break
+    sleep 0.1
+done
+count 'the lines of a quiet run are on the disk once more are awaited' "$synced"
+exec 9>&-
+wait "$running"
+[ "$(cat "$work/err")" = '501 ok, 0 refused, 0 faults' ]
+count 'and are counted at its end' $?
 
 echo "$passed passed, $failed failed"
 [ "$failed" -eq 0 ]

@@ -8,6 +8,7 @@ import java.nio.file.Path;
 import java.time.Duration;
 import java.util.ArrayList;
 import java.util.EnumSet;
+import java.util.HashMap;
 import java.util.Iterator;
 import java.util.List;
 import java.util.Map;
@@ -21,6 +22,7 @@ import java.util.concurrent.Future;
 import java.util.concurrent.TimeUnit;
 import java.util.regex.Matcher;
 import java.util.regex.Pattern;
+import java.util.stream.Collectors;
 import org.tabd.accumulo.Tabd;
 import org.tabd.accumulo.core.client.AccumuloClient;
 import org.tabd.accumulo.core.client.AccumuloException;
@@ -28,6 +30,8 @@ import org.tabd.accumulo.core.client.AccumuloSecurityException;
 import org.tabd.accumulo.core.client.BatchScanner;
 import org.tabd.accumulo.core.client.BatchWriter;
 import org.tabd.accumulo.core.client.BatchWriterConfig;
+import org.tabd.accumulo.core.client.Durability;
+import org.tabd.accumulo.core.client.IsolatedScanner;
 import org.tabd.accumulo.core.client.IteratorSetting;
 import org.tabd.accumulo.core.client.MultiTableBatchWriter;
 import org.tabd.accumulo.core.client.MutationsRejectedException;
@@ -36,6 +40,7 @@ import org.tabd.accumulo.core.client.ScannerBase;
 import org.tabd.accumulo.core.client.TableExistsException;
 import org.tabd.accumulo.core.client.TableNotFoundException;
 import org.tabd.accumulo.core.client.TimedOutException;
+import org.tabd.accumulo.core.client.admin.CompactionConfig;
 import org.tabd.accumulo.core.client.admin.NewTableConfiguration;
 import org.tabd.accumulo.core.client.admin.TimeType;
 import org.tabd.accumulo.core.client.security.SecurityErrorCode;
@@ -58,9 +63,16 @@ import org.tabd.accumulo.core.security.VisibilityEvaluator;
 import org.tabd.accumulo.core.util.BadArgumentException;
 import org.tabd.hadoop.io.Text;
 import org.tabd.protocol.Address;
+import org.tabd.protocol.Cell;
+import org.tabd.protocol.Column;
+import org.tabd.protocol.Connection;
 import org.tabd.protocol.ConnectionClosedException;
 import org.tabd.protocol.Constraint;
+import org.tabd.protocol.Permission;
 import org.tabd.protocol.ProtocolException;
+import org.tabd.protocol.Request;
+import org.tabd.protocol.Rights;
+import org.tabd.protocol.RowRange;
 import org.tabd.protocol.ServerTimeoutException;
 
 /**
@@ -91,6 +103,7 @@ public final class AccumuloCases {
         AccumuloCases cases = new AccumuloCases(Integer.parseInt(words[0]));
         part("labels", () -> cases.labels(Path.of(words[1])));
         part("keys", AccumuloCases::keys);
+        part("texts", AccumuloCases::texts);
         part("ranges", AccumuloCases::ranges);
         part("mutations", AccumuloCases::mutations);
         part("versions and deletes", cases::versions);
@@ -147,6 +160,12 @@ public final class AccumuloCases {
             }
         }
         return null;
+    }
+
+    /** Runs what has to throw this with this text. */
+    private static void said(String name, Class<? extends Throwable> kind, String text, Doing doing) {
+        Throwable fault = thrown(name, kind, doing);
+        same(name + ": text", fault == null ? null : fault.getMessage(), text);
     }
 
     private static void denied(String name, SecurityErrorCode code, Doing doing) {
@@ -276,6 +295,21 @@ public final class AccumuloCases {
         same("the order of values", Integer.signum(new Value(low).compareTo(new Value(high))), -1);
     }
 
+    private static void texts() {
+        byte[] bytes = {'a', '\n', '\\'};
+        byte[] none = {};
+        same("a cell", new Cell(bytes, none, bytes, none, 5, bytes).toString(),
+                "Cell[row=a\\x0a\\\\, family=\\e, qualifier=a\\x0a\\\\, label=\\e, timestamp=5, value=a\\x0a\\\\]");
+        same("a column", new Column(bytes, null).toString(), "Column[family=a\\x0a\\\\, qualifier=null]");
+        same("rows", new RowRange(bytes, true, null, false).toString(), "RowRange[low=a\\x0a\\\\, withLow=true, high=null, withHigh=false]");
+        same("rights", new Rights(Set.of("GRANT"), Set.of(), List.of(bytes, none)).toString(),
+                "Rights[system=[GRANT], table=[], authorizations=[a\\x0a\\\\, \\e]]");
+        Mutation mutation = new Mutation("r");
+        mutation.put("f", "q", new ColumnVisibility("A"), 5, "v");
+        mutation.putDelete("f", "q");
+        same("a mutation", mutation.toString(), "mutation: r\n update: f:q 5 [A] v false\n update: f:q - []  true\n");
+    }
+
     private static void ranges() {
         thrown("c to a", IllegalArgumentException.class, () -> new Range("c", "a"));
         count("a to c has c's cells", new Range("a", "c").contains(key("c", "f", "q", 5)), "");
@@ -330,7 +364,7 @@ public final class AccumuloCases {
         same("a delete at a put", scan(table), List.of());
         write(table, put("r", "f", "q", "", 6, "late"));
         same("a put at a delete, later", scan(table), List.of());
-        root.tableOperations().compact(table, null, null, true, true);
+        root.tableOperations().compact(table, new CompactionConfig().setWait(true));
         write(table, put("r", "f", "q", "", 6, "later"));
         same("and behind a full compaction, which Accumulo would show", scan(table), List.of());
         write(table, put("r", "f", "q", "", 7, "above"));
@@ -343,11 +377,30 @@ public final class AccumuloCases {
         write(labels, put("s", "f", "q", "A&B", 5, "one"), put("s", "f", "q", "B&A", 5, "other"));
         same("labels are kept as they are written", scan(labels, new Range("s"), "A", "B"), List.of("s f q one", "s f q other"));
 
-        String three = table(new NewTableConfiguration().setProperties(Map.of("table.iterator.scan.vers.opt.maxVersions", "3")));
+        String three = table(new NewTableConfiguration().setProperties(versions("3", "3", "3")));
         for (int time = 1; time < 6; time++) {
             write(three, put("r", "f", "q", "", time, "v" + time));
         }
         same("three versions", scan(three), List.of("r f q v5", "r f q v4", "r f q v3"));
+        said("other numbers", IllegalArgumentException.class, "a table has one number of versions, and not 3 in scans and 5 in major compactions",
+                () -> new NewTableConfiguration().setProperties(versions("3", "3", "5")));
+        said("a number that isn't given is 1", IllegalArgumentException.class,
+                "a table has one number of versions, and not 3 in scans and 1 in minor compactions",
+                () -> new NewTableConfiguration().setProperties(versions("3", null, "3")));
+        said("in scans too", IllegalArgumentException.class, "a table has one number of versions, and not 1 in scans and 5 in major compactions",
+                () -> new NewTableConfiguration().setProperties(versions(null, null, "5")));
+        same("no properties", new NewTableConfiguration().setVersions(2).setProperties(Map.of()).getVersions(), 2);
+    }
+
+    /** The properties of so many versions in scans, minor and major compactions, where they are given. */
+    private static Map<String, String> versions(String scan, String minc, String majc) {
+        Map<String, String> properties = new HashMap<>();
+        properties.put("scan", scan);
+        properties.put("minc", minc);
+        properties.put("majc", majc);
+        properties.values().removeIf(Objects::isNull);
+        return properties.entrySet().stream().collect(
+                Collectors.toMap(it -> "table.iterator." + it.getKey() + ".vers.opt.maxVersions", Map.Entry::getValue));
     }
 
     private void scans() throws Exception {
@@ -359,7 +412,7 @@ public final class AccumuloCases {
         same("an empty range of Accumulo's", scan(table, new Range("a", false, "a", true)), List.of());
         same("capital letters first", scan(table, new Range(null, "a")), List.of("B f q 4", "a f q 1"));
         same("a row and what follows it", scan(table, new Range("c", "c\0")), List.of("c f r 5", "c\0 f q 6"));
-        try (Scanner scanner = root.createScanner(table, Authorizations.EMPTY)) {
+        try (Scanner plain = root.createScanner(table, Authorizations.EMPTY); Scanner scanner = new IsolatedScanner(plain)) {
             scanner.fetchColumnFamily("g");
             scanner.fetchColumn("f", "r");
             same("a family and a column", shown(scanner), List.of("b g q 3", "c f r 5"));
@@ -473,6 +526,9 @@ public final class AccumuloCases {
             throw (Exception) refused.getCause();
         });
         root.securityOperations().changeUserAuthorizations("root", new Authorizations("A", "B"));
+        Throwable odd = thrown("one that isn't printable", RuntimeException.class, () -> scan(table, new Range(), "\u00e4 \\,"));
+        same("a term as the shell has it", odd.getCause().getMessage(),
+                "Error BAD_AUTHORIZATIONS for user root on table " + table + ": BadAuthorizations[term=\\xc3\\xa4\\x20\\\\,]");
         same("a part of those held", scan(table, new Range(), "A"), List.of("r f a 1", "r f c 3"));
         same("none of them", scan(table, new Range()), List.of("r f c 3"));
         try (Scanner scanner = root.createScanner(table)) {
@@ -512,6 +568,12 @@ public final class AccumuloCases {
         try (BatchWriter writer = root.createBatchWriter(table, new BatchWriterConfig().setMaxMemory(1).setMaxLatency(1, TimeUnit.HOURS))) {
             thrown("an empty mutation", IllegalArgumentException.class, () -> writer.addMutation(new Mutation("r")));
             thrown("one over 8 MiB", IllegalArgumentException.class, () -> writer.addMutation(put("r", "f", "q", "", 1, "v".repeat(9_000_000))));
+            Mutation many = new Mutation("r");
+            for (int update = 0; update < 1001; update++) {
+                many.put("f", "q" + update, "v");
+            }
+            thrown("1,001 updates", MutationsRejectedException.class, () -> write(table, many));
+            thrown("a part over 1 MiB", MutationsRejectedException.class, () -> write(table, put("r", "f", "q", "", 1, "v".repeat((1 << 20) + 1))));
             writer.addMutation(put("now", "f", "q", "", 1, "v"));
             writer.flush();
             same("behind a flush", scan(table, new Range("now")).size(), 1);
@@ -531,6 +593,13 @@ public final class AccumuloCases {
         thrown("flush tells", MutationsRejectedException.class, told::flush);
         thrown("each call tells then", MutationsRejectedException.class, () -> told.addMutation(put("r", "f", "q", "", 1, "v")));
         thrown("close tells too", MutationsRejectedException.class, told::close);
+
+        BatchWriterConfig durable = new BatchWriterConfig().setDurability(Durability.SYNC);
+        same("a durability is kept", durable.getDurability(), Durability.SYNC);
+        try (BatchWriter writer = root.createBatchWriter(table, durable)) {
+            writer.addMutation(put("durable", "f", "q", "", 1, "v"));
+        }
+        same("and ignored", scan(table, new Range("durable")).size(), 1);
 
         String other = table();
         try (MultiTableBatchWriter writers = root.createMultiTableBatchWriter()) {
@@ -557,6 +626,8 @@ public final class AccumuloCases {
         String table = table();
         count("there is the table", root.tableOperations().exists(table) && !root.tableOperations().exists("none"), "");
         thrown("a table twice", TableExistsException.class, () -> root.tableOperations().create(table));
+        said("no name", IllegalArgumentException.class, "not a name, which is 1 to 128 of a-z A-Z 0-9 _ - . : null", () -> root.tableOperations().create(null));
+        thrown("no name to scan", IllegalArgumentException.class, () -> root.createScanner(null, Authorizations.EMPTY));
         thrown("no table to scan", TableNotFoundException.class, () -> root.createScanner("none", Authorizations.EMPTY));
         thrown("no table to write to", TableNotFoundException.class, () -> root.createBatchWriter("none"));
         thrown("no table to drop", TableNotFoundException.class, () -> root.tableOperations().delete("none"));
@@ -601,7 +672,7 @@ public final class AccumuloCases {
             denied("to make a table", SecurityErrorCode.PERMISSION_DENIED, () -> ann.tableOperations().create("hers"));
             root.securityOperations().grantSystemPermission("ann", SystemPermission.CREATE_TABLE);
             ann.tableOperations().create("hers");
-            for (TablePermission permission : TablePermission.values()) {
+            for (TablePermission permission : Permission.TABLE.stream().map(TablePermission::valueOf).toList()) {
                 count("the maker has " + permission, ann.securityOperations().hasTablePermission("ann", "hers", permission), "");
             }
             root.securityOperations().revokeSystemPermission("ann", SystemPermission.CREATE_TABLE);
@@ -622,6 +693,11 @@ public final class AccumuloCases {
         denied("no such user", SecurityErrorCode.USER_DOESNT_EXIST, () -> root.securityOperations().dropLocalUser("none"));
         denied("root is not dropped", SecurityErrorCode.PERMISSION_DENIED, () -> root.securityOperations().dropLocalUser("root"));
         denied("GRANT is root's", SecurityErrorCode.GRANT_INVALID, () -> root.securityOperations().grantSystemPermission("ann", SystemPermission.GRANT));
+        for (TablePermission permission : List.of(TablePermission.ALTER_TABLE, TablePermission.READ)) {
+            // a permission of that name is on the system too
+            thrown(permission + " on no table", IllegalArgumentException.class, () -> root.securityOperations().grantTablePermission("ann", null, permission));
+            thrown(permission + " from no table", IllegalArgumentException.class, () -> root.securityOperations().revokeTablePermission("ann", null, permission));
+        }
         denied("a table that isn't there", SecurityErrorCode.TABLE_DOESNT_EXIST,
                 () -> root.securityOperations().grantTablePermission("ann", "none", TablePermission.READ));
     }
@@ -659,6 +735,40 @@ public final class AccumuloCases {
             Filter.setNegate(time, true);
             scanner.addScanIterator(time);
             same("and not that time", shown(scanner), List.of("apple f q red"));
+        }
+        filtersBeforeVersions(table);
+    }
+
+    /** In Accumulo these would see versions that the table doesn't show, as its versions are left out at priority 20. */
+    private void filtersBeforeVersions(String table) throws Exception {
+        String why = "addScanIterator: a filter here sees only the versions that the table shows; priority 10 would come before them";
+        IteratorSetting rows = new IteratorSetting(10, RegExFilter.class);
+        RegExFilter.setRegexs(rows, "p.*", "f", "q", null, false);
+        IteratorSetting values = new IteratorSetting(10, "values", RegExFilter.class);
+        RegExFilter.setRegexs(values, null, null, null, "red", false);
+        IteratorSetting grep = new IteratorSetting(10, GrepIterator.class);
+        GrepIterator.setTerm(grep, "re");
+        IteratorSetting time = new IteratorSetting(10, TimestampFilter.class);
+        TimestampFilter.setEnd(time, 2, true);
+        try (Scanner scanner = root.createScanner(table, Authorizations.EMPTY)) {
+            for (IteratorSetting setting : List.of(values, grep, time)) {
+                said(setting.getName() + " at 10", UnsupportedOperationException.class, why, () -> scanner.addScanIterator(setting));
+            }
+            scanner.addScanIterator(rows);
+            same("what looks at keys is the same before and behind", shown(scanner), List.of("pear f q green"));
+            said("a pattern on values, later", UnsupportedOperationException.class, why,
+                    () -> scanner.updateScanIteratorOption("RegExFilter", "valueRegex", "red"));
+            same("isn't set then", shown(scanner), List.of("pear f q green"));
+            thrown("an option that is none", IllegalArgumentException.class,
+                    () -> scanner.updateScanIteratorOption("RegExFilter", "rowRegex", "("));
+            scanner.clearScanIterators();
+            said("no term", IllegalArgumentException.class, "GrepIterator has no option term",
+                    () -> scanner.addScanIterator(new IteratorSetting(21, GrepIterator.class)));
+            scanner.addScanIterator(
+                    new IteratorSetting(22, "there", "org.apache.accumulo.core.iterators.user.GrepIterator", Map.of("term", "re")));
+            same("a filter by its name in Accumulo", shown(scanner), List.of("apple f q red", "pear f q green"));
+            same("a setting as a text", new IteratorSetting(22, "n", "c", Map.of("o", "v")).toString(), "name:n, priority:22, class:c, properties:{o=v}");
+            same("a cell as a text", scanner.iterator().next().toString(), "apple f:q [] 1 false red");
         }
     }
 
@@ -719,8 +829,12 @@ public final class AccumuloCases {
             thread.start();
         }
 
+        Address address() {
+            return new Address.Port("127.0.0.1", listener.getLocalPort());
+        }
+
         AccumuloClient client() {
-            return Tabd.client(new Address.Port("127.0.0.1", listener.getLocalPort()), "root", Duration.ofSeconds(30));
+            return Tabd.client(address(), "root", Duration.ofSeconds(30));
         }
 
         private void serve() {
@@ -791,6 +905,18 @@ public final class AccumuloCases {
             count("why", lost.getCause() instanceof ConnectionClosedException, lost.getCause());
             thrown("and at its end", MutationsRejectedException.class, writer::close);
         }
+        try (StandIn server = new StandIn(-1, true)) {
+            String why = "the server took longer than PT0.1S; all its workers may be busy (--workers)";
+            ServerTimeoutException busy = thrown("a connection that nobody serves", ServerTimeoutException.class,
+                    () -> Connection.open(server.address(), "root", Duration.ofMillis(100)));
+            same("says why that may be", busy.getMessage(), why);
+            AccumuloClient client = Tabd.client(server.address(), "root", Duration.ofMillis(100));
+            AccumuloException asked = thrown("an operation too", AccumuloException.class, () -> client.tableOperations().flush("t"));
+            same("says it", asked.getCause().getMessage(), why);
+        }
+        try (StandIn server = new StandIn(0, true); Connection connection = Connection.open(server.address(), "root", Duration.ofMillis(100))) {
+            said("one that is served", ServerTimeoutException.class, "the server took longer than PT0.1S", () -> connection.ask(Request.status("t")));
+        }
         try (StandIn server = new StandIn(1, true); AccumuloClient client = server.client(); AccumuloClient another = server.client()) {
             Scanner scanner = client.createScanner("t", Authorizations.EMPTY);
             scanner.setTimeout(50, TimeUnit.MILLISECONDS);
@@ -807,6 +933,18 @@ public final class AccumuloCases {
         String table = table();
         for (Doing doing : List.<Doing>of(
                 () -> root.tableOperations().list(),
+                () -> root.tableOperations().rename(table, "other"),
+                () -> root.tableOperations().clone(table, "other", false, Map.of(), Set.of()),
+                () -> root.tableOperations().merge(table, null, null),
+                () -> root.tableOperations().deleteRows(table, null, null),
+                () -> root.tableOperations().getMaxRow(table, Authorizations.EMPTY, null, true, null, true),
+                () -> root.tableOperations().setProperty(table, "table.split.threshold", "1G"),
+                () -> new NewTableConfiguration().setProperties(Map.of("table.split.threshold", "1G")),
+                () -> root.securityOperations().getUserAuthorizations("root"),
+                () -> root.securityOperations().hasSystemPermission("root", SystemPermission.SYSTEM),
+                () -> root.securityOperations().hasTablePermission("ann", table, TablePermission.READ),
+                () -> root.securityOperations().authenticateUser("root", new PasswordToken("secret")),
+                () -> root.securityOperations().changeLocalUserPassword("root", new PasswordToken("secret")),
                 () -> root.tableOperations().addConstraint(table, "c"),
                 () -> root.tableOperations().setLocalityGroups(table, Map.of()),
                 () -> root.tableOperations().attachIterator(table, null),
@@ -815,6 +953,11 @@ public final class AccumuloCases {
                 () -> root.createBatchDeleter(table, Authorizations.EMPTY, 1),
                 () -> root.createConditionalWriter(table),
                 () -> root.tableOperations().create("logical", new NewTableConfiguration().setTimeType(TimeType.LOGICAL)),
+                () -> root.securityOperations().grantTablePermission("root", table, TablePermission.BULK_IMPORT),
+                () -> root.securityOperations().revokeTablePermission("root", table, TablePermission.GET_SUMMARIES),
+                () -> root.securityOperations().hasTablePermission("root", table, TablePermission.BULK_IMPORT),
+                () -> root.securityOperations().grantSystemPermission("root", SystemPermission.CREATE_NAMESPACE),
+                () -> root.securityOperations().revokeSystemPermission("root", SystemPermission.OBTAIN_DELEGATION_TOKEN),
                 root::namespaceOperations,
                 root::instanceOperations,
                 () -> root.createScanner(table).addScanIterator(new IteratorSetting(1, "sum", "org.tabd.accumulo.core.iterators.user.SummingCombiner")))) {
