@@ -89,7 +89,8 @@ echo bogus | "$TABD" script --strict >out 2>err
 count 'and 3' $?
 for signal in HUP USR1 USR2 TERM; do
     rm -f signalled && : >out
-    "$TABD" serve --socket signalled >out 2>err </dev/null &
+    # (whoever starts the tests may ignore a signal, as nohup does)
+    env --default-signal="$signal" "$TABD" serve --socket signalled >out 2>err </dev/null &
     server=$!
     for _ in $(seq 400); do ! grep -q listening out || break; sleep 0.05; done
     kill -s "$signal" "$server"
