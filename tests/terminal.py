@@ -79,7 +79,8 @@ def main():
     begin, go = os.pipe()
     child, terminal = pty.fork()
     if child == 0:
-        signal.signal(signal.SIGINT, signal.SIG_DFL)
+        for it in (signal.SIGINT, signal.SIGQUIT, signal.SIGHUP):
+            signal.signal(it, signal.SIG_DFL)
         os.read(begin, 1)
         os.execvpe(command[0], command, {**os.environ, "TERM": "xterm"})
     fcntl.ioctl(terminal, termios.TIOCSWINSZ, struct.pack("HHHH", 24, columns, 0, 0))
